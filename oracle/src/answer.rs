@@ -1,0 +1,166 @@
+//! One answer to each line, over either implementation of the routines.
+
+use crate::case::{Case, JoinCase, MeshCase, Op, ReadCase};
+use crate::endpoint::{Endpoint, EndpointId, LineJoin, Points, NEGATIVE, POSITIVE};
+use crate::line::{filled_floats, filled_numbers, float_word, Line};
+use crate::outcome::Outcome;
+use crate::path::Path;
+use crate::plane::{point, vector};
+use crate::routines::Routines;
+use crate::vertices::Mesh;
+use crate::window::Window;
+use crate::{mesh, normal, reader, root};
+
+/// The answer to a line, without line feeds on either.
+pub fn answer<R: Routines>(line: &[u8]) -> String {
+    match Case::parse(line) {
+        Some(case) => answer_case::<R>(&case),
+        None => "bad line".to_string(),
+    }
+}
+
+pub fn answer_case<R: Routines>(case: &Case) -> String {
+    match case {
+        Case::Mesh(case) => answer_mesh::<R>(case),
+        Case::Read(case) => answer_read(case),
+        Case::Root(x) => answer_root(*x),
+        Case::Normal(floats) => answer_normal::<R>(*floats),
+        Case::Window(ops) => answer_window::<R>(ops),
+        Case::Join(case) => answer_join::<R>(case),
+        Case::Cap(floats) => answer_cap::<R>(*floats),
+    }
+}
+
+fn outcome(kind: &str, outcome: Outcome) -> Line {
+    Line::new(kind)
+        .number(outcome.number as usize)
+        .number(outcome.place)
+        .number(outcome.counts.0)
+        .number(outcome.counts.1)
+}
+
+fn answer_mesh<R: Routines>(case: &MeshCase) -> String {
+    let mut vertices = filled_floats(case.vertex_len);
+    let mut triangles = filled_numbers(case.triangle_len);
+    let path = Path {
+        verbs: &case.verbs,
+        coordinates: &case.coordinates,
+    };
+    let answer = mesh::mesh::<R>(path, case.options, &mut vertices, &mut triangles);
+    outcome("mesh", answer)
+        .floats(&vertices)
+        .numbers(&triangles)
+        .done()
+}
+
+fn answer_read(case: &ReadCase) -> String {
+    let mut verbs = filled_numbers(case.verb_len);
+    let mut coordinates = filled_floats(case.coordinate_len);
+    let answer = reader::read(&case.text, &mut verbs, &mut coordinates);
+    outcome("read", answer)
+        .bytes(&verbs)
+        .floats(&coordinates)
+        .done()
+}
+
+fn answer_root(x: f32) -> String {
+    let (number, root) = root::public_root(x);
+    Line::new("root")
+        .number(number as usize)
+        .number(0)
+        .float(root)
+        .done()
+}
+
+fn answer_normal<R: Routines>([x1, y1, x2, y2]: [f32; 4]) -> String {
+    let (number, normal) = normal::public_normal(R::compute_normal, vector(x1, y1), vector(x2, y2));
+    Line::new("normal")
+        .number(number as usize)
+        .number(0)
+        .some_floats(&[normal.x, normal.y])
+        .done()
+}
+
+fn answer_window<R: Routines>(ops: &[Op]) -> String {
+    let mut window = R::Window::default();
+    let start = Line::new("window").number(ops.len());
+    ops.iter()
+        .fold(start, |line, &op| line.word(&answer_op(&mut window, op)))
+        .done()
+}
+
+fn answer_op<W: Window>(window: &mut W, op: Op) -> String {
+    match op {
+        Op::Push(k) => {
+            window.push(endpoint_of(k));
+            "0".to_string()
+        }
+        Op::Replace(k) => window.replace_last(endpoint_of(k)).to_string(),
+        Op::Clear => {
+            window.clear();
+            "0".to_string()
+        }
+        Op::Get(i) => {
+            let (number, endpoint) = window.get(i);
+            format!("{}:{}", number, float_word(endpoint.position.x))
+        }
+        Op::Count => window.count().to_string(),
+    }
+}
+
+/// Endpoint K: position (K, 0), advancement K, number K, the rest as refusal 12 gives it.
+pub fn endpoint_of(k: usize) -> Endpoint {
+    Endpoint {
+        number: EndpointId(k as u32),
+        position: point(k as f32, 0.0),
+        advancement: k as f32,
+        ..Endpoint::zero()
+    }
+}
+
+fn answer_join<R: Routines>(case: &JoinCase) -> String {
+    let worked = worked_join::<R>(case);
+    let line = side(Line::new("join"), worked.sides[POSITIVE]);
+    side(line, worked.sides[NEGATIVE])
+        .number(usize::from(worked.fold[POSITIVE]))
+        .number(usize::from(worked.fold[NEGATIVE]))
+        .word(
+            &worked
+                .inner
+                .map_or("-".to_string(), |side| side.to_string()),
+        )
+        .done()
+}
+
+pub fn worked_join<R: Routines>(case: &JoinCase) -> Endpoint {
+    let [prev, join, next] = case.points.map(|(position, advancement)| Endpoint {
+        position,
+        half_width: case.half_width,
+        advancement,
+        line_join: LineJoin::of(case.join).expect("a join of 0 to 2"),
+        ..Endpoint::zero()
+    });
+    R::work_join(&prev, &join, &next, case.limit)
+}
+
+fn side(line: Line, points: Points) -> Line {
+    match points {
+        Points::Single(p) => line.word("S").some_floats(&[p.x, p.y]),
+        Points::Pair(p, q) => line.word("P").some_floats(&[p.x, p.y, q.x, q.y]),
+    }
+}
+
+fn answer_cap<R: Routines>([x, y, half_width, advancement]: [f32; 4]) -> String {
+    let mut mesh = Mesh::default();
+    let endpoint = Endpoint {
+        position: point(x, y),
+        half_width,
+        advancement,
+        ..Endpoint::zero()
+    };
+    R::write_empty_cap(&endpoint, &mut mesh);
+    Line::new("cap")
+        .floats(&mesh.vertices.concat())
+        .numbers(&mesh.triangles.concat())
+        .done()
+}

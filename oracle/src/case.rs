@@ -1,0 +1,187 @@
+//! The cases: read from a line, printed as one.
+
+use crate::line::{number, Line, Words, LINE_ROOM};
+use crate::mesh::Options;
+use crate::plane::{point, Point};
+
+pub const MAX_VERTEX_LIST: usize = 81_920;
+pub const MAX_TRIANGLE_LIST: usize = 49_152;
+pub const MAX_VERB_LIST: usize = 4_200;
+pub const MAX_COORDINATE_LIST: usize = 8_400;
+const MAX_ENDPOINT: usize = 9_999;
+const MAX_GET: usize = 9;
+
+#[derive(Clone, Debug, PartialEq)]
+pub enum Case {
+    Mesh(MeshCase),
+    Read(ReadCase),
+    Root(f32),
+    Normal([f32; 4]),
+    Window(Vec<Op>),
+    Join(JoinCase),
+    Cap([f32; 4]),
+}
+
+#[derive(Clone, Debug, PartialEq)]
+pub struct MeshCase {
+    pub options: Options,
+    pub vertex_len: usize,
+    pub triangle_len: usize,
+    pub verbs: Vec<u8>,
+    pub coordinates: Vec<f32>,
+}
+
+#[derive(Clone, Debug, PartialEq)]
+pub struct ReadCase {
+    pub verb_len: usize,
+    pub coordinate_len: usize,
+    pub text: Vec<u8>,
+}
+
+#[derive(Clone, Copy, Debug, PartialEq, Eq)]
+pub enum Op {
+    Push(usize),
+    Replace(usize),
+    Clear,
+    Get(usize),
+    Count,
+}
+
+/// A point on the path and its advancement.
+pub type Reached = (Point, f32);
+
+#[derive(Clone, Copy, Debug, PartialEq)]
+pub struct JoinCase {
+    pub half_width: f32,
+    pub limit: f32,
+    pub join: u8,
+    pub points: [Reached; 3],
+}
+
+impl Case {
+    /// Nothing where the line is none of the forms.
+    pub fn parse(line: &[u8]) -> Option<Case> {
+        if line.len() > LINE_ROOM {
+            return None;
+        }
+        let mut words = Words::of(line);
+        let case = match words.word()? {
+            b"mesh" => Case::Mesh(mesh(&mut words)?),
+            b"read" => Case::Read(read(&mut words)?),
+            b"root" => Case::Root(words.float()?),
+            b"normal" => Case::Normal(words.some_floats()?),
+            b"window" => Case::Window(words.list(|words| op(words.word()?))?),
+            b"join" => Case::Join(join(&mut words)?),
+            b"cap" => Case::Cap(words.some_floats()?),
+            _ => return None,
+        };
+        words.end()?;
+        Some(case)
+    }
+
+    pub fn line(&self) -> String {
+        match self {
+            Case::Mesh(case) => mesh_line(case),
+            Case::Read(case) => Line::new("read")
+                .number(case.verb_len)
+                .number(case.coordinate_len)
+                .bytes(&case.text)
+                .done(),
+            Case::Root(x) => Line::new("root").float(*x).done(),
+            Case::Normal(floats) => Line::new("normal").some_floats(floats).done(),
+            Case::Window(ops) => ops
+                .iter()
+                .fold(Line::new("window").number(ops.len()), |line, op| {
+                    line.word(&op_word(op))
+                })
+                .done(),
+            Case::Join(case) => join_line(case),
+            Case::Cap(floats) => Line::new("cap").some_floats(floats).done(),
+        }
+    }
+}
+
+fn mesh(words: &mut Words) -> Option<MeshCase> {
+    Some(MeshCase {
+        options: Options {
+            width: words.float()?,
+            limit: words.float()?,
+            join: words.number(255)? as u8,
+            cap: words.number(255)? as u8,
+        },
+        vertex_len: words.number(MAX_VERTEX_LIST)?,
+        triangle_len: words.number(MAX_TRIANGLE_LIST)?,
+        verbs: words.bytes()?,
+        coordinates: words.list(Words::float)?,
+    })
+}
+
+fn mesh_line(case: &MeshCase) -> String {
+    Line::new("mesh")
+        .float(case.options.width)
+        .float(case.options.limit)
+        .number(usize::from(case.options.join))
+        .number(usize::from(case.options.cap))
+        .number(case.vertex_len)
+        .number(case.triangle_len)
+        .bytes(&case.verbs)
+        .floats(&case.coordinates)
+        .done()
+}
+
+fn read(words: &mut Words) -> Option<ReadCase> {
+    Some(ReadCase {
+        verb_len: words.number(MAX_VERB_LIST)?,
+        coordinate_len: words.number(MAX_COORDINATE_LIST)?,
+        text: words.bytes()?,
+    })
+}
+
+fn op(word: &[u8]) -> Option<Op> {
+    let (letter, rest) = word.split_first()?;
+    match letter {
+        b'p' => Some(Op::Push(number(rest, MAX_ENDPOINT)?)),
+        b'r' => Some(Op::Replace(number(rest, MAX_ENDPOINT)?)),
+        b'c' if rest.is_empty() => Some(Op::Clear),
+        b'g' => Some(Op::Get(number(rest, MAX_GET)?)),
+        b'n' if rest.is_empty() => Some(Op::Count),
+        _ => None,
+    }
+}
+
+fn op_word(op: &Op) -> String {
+    match op {
+        Op::Push(k) => format!("p{}", k),
+        Op::Replace(k) => format!("r{}", k),
+        Op::Clear => "c".to_string(),
+        Op::Get(i) => format!("g{}", i),
+        Op::Count => "n".to_string(),
+    }
+}
+
+fn join(words: &mut Words) -> Option<JoinCase> {
+    Some(JoinCase {
+        half_width: words.float()?,
+        limit: words.float()?,
+        join: words.number(2)? as u8,
+        points: [reached(words)?, reached(words)?, reached(words)?],
+    })
+}
+
+fn reached(words: &mut Words) -> Option<Reached> {
+    let [x, y, advancement] = words.some_floats()?;
+    Some((point(x, y), advancement))
+}
+
+fn join_line(case: &JoinCase) -> String {
+    let start = Line::new("join")
+        .float(case.half_width)
+        .float(case.limit)
+        .number(usize::from(case.join));
+    case.points
+        .iter()
+        .fold(start, |line, (at, advancement)| {
+            line.some_floats(&[at.x, at.y, *advancement])
+        })
+        .done()
+}

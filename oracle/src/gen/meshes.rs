@@ -1,0 +1,177 @@
+//! Mesh cases: accepted paths with rooms of every kind, and each refusal at every place.
+
+use super::paths::{long_path, options, path};
+use super::rng::{ulps, Rng};
+use crate::case::{MeshCase, MAX_TRIANGLE_LIST, MAX_VERTEX_LIST};
+use crate::mesh::{drawn, LIMITS, WIDTHS};
+use crate::path::{Path, BEGIN, END_OPEN, LINE, MAX_COORDINATE, MAX_VERBS};
+use crate::routines::Reading;
+use crate::vertices::Mesh;
+
+pub fn mesh(rng: &mut Rng) -> MeshCase {
+    let drawn = if rng.one_in(2_000) {
+        long_path(rng)
+    } else {
+        path(rng)
+    };
+    let mut case = MeshCase {
+        options: options(rng, &drawn),
+        vertex_len: 0,
+        triangle_len: 0,
+        verbs: drawn.verbs,
+        coordinates: drawn.coordinates,
+    };
+    match rng.below(100) {
+        0..=59 => {}
+        60..=69 => spoil_option(rng, &mut case),
+        70..=81 => spoil_verbs(rng, &mut case),
+        82..=93 => spoil_coordinate(rng, &mut case),
+        94 => many_verbs(rng, &mut case),
+        _ => spoil_twice(rng, &mut case),
+    }
+    lend(rng, &mut case);
+    case
+}
+
+/// Refusal 1: one option outside its range, by one step where it has steps.
+fn spoil_option(rng: &mut Rng, case: &mut MeshCase) {
+    let beyond = |rng: &mut Rng, (least, most): (f32, f32)| {
+        rng.pick(&[
+            ulps(least, -1),
+            ulps(most, 1),
+            0.0,
+            -0.0,
+            -least,
+            -most,
+            f32::NAN,
+            f32::INFINITY,
+            f32::NEG_INFINITY,
+            f32::MAX,
+            f32::from_bits(1),
+        ])
+    };
+    match rng.below(4) {
+        0 => case.options.width = beyond(rng, WIDTHS),
+        1 => case.options.limit = beyond(rng, LIMITS),
+        2 => case.options.join = rng.pick(&[3, 4, 128, 255]),
+        _ => case.options.cap = rng.pick(&[2, 3, 128, 255]),
+    }
+}
+
+/// First, last or any place of a list that is not empty.
+fn place(rng: &mut Rng, length: usize) -> usize {
+    match rng.below(4) {
+        0 => 0,
+        1 => length - 1,
+        _ => rng.below(length),
+    }
+}
+
+/// Refusal 3, mostly: a verb changed, put in or taken out, or coordinates too few or too many.
+fn spoil_verbs(rng: &mut Rng, case: &mut MeshCase) {
+    let any = rng.pick(&[0, 1, 2, 3, 4, 5, 127, 255]);
+    let length = case.verbs.len();
+    match rng.below(8) {
+        0 => case.verbs.insert(rng.below(length + 1), any),
+        1 => case.coordinates.truncate(rng.below(length + 1)),
+        2 => case.coordinates.push(1.0),
+        3 => case.coordinates.extend([1.0, 2.0]),
+        _ if length == 0 => case.verbs.push(any),
+        4 => {
+            case.verbs.remove(place(rng, length));
+        }
+        5 => {
+            let at = place(rng, length);
+            let points = case.verbs[..at].iter().filter(|&&v| v <= LINE).count();
+            case.verbs.truncate(at);
+            case.coordinates.truncate(2 * points);
+        }
+        _ => case.verbs[place(rng, length)] = any,
+    }
+}
+
+/// Refusal 4, and coordinates that are just accepted.
+fn spoil_coordinate(rng: &mut Rng, case: &mut MeshCase) {
+    if case.coordinates.is_empty() {
+        case.verbs = vec![BEGIN, END_OPEN];
+        case.coordinates = vec![1.0, 2.0];
+    }
+    for _ in 0..1 + rng.below(2) {
+        let at = place(rng, case.coordinates.len());
+        let beyond = ulps(MAX_COORDINATE, 1);
+        case.coordinates[at] = rng.pick(&[
+            beyond,
+            -beyond,
+            beyond,
+            -beyond,
+            f32::NAN,
+            f32::INFINITY,
+            f32::NEG_INFINITY,
+            f32::MAX,
+            MAX_COORDINATE,
+            -MAX_COORDINATE,
+        ]);
+    }
+}
+
+/// Refusal 2 at its boundary, without the coordinates, so that the line stays short.
+fn many_verbs(rng: &mut Rng, case: &mut MeshCase) {
+    let length = MAX_VERBS + rng.pick(&[0, 1, 1, 2]);
+    case.verbs = match rng.below(3) {
+        0 => vec![rng.below(6) as u8; length],
+        1 => [BEGIN, END_OPEN].repeat(length),
+        _ => [vec![BEGIN], vec![LINE; length]].concat(),
+    };
+    case.verbs.truncate(length);
+    case.coordinates.clear();
+}
+
+/// Two faults at once: the lower number is given.
+fn spoil_twice(rng: &mut Rng, case: &mut MeshCase) {
+    let faults: [fn(&mut Rng, &mut MeshCase); 4] =
+        [spoil_option, spoil_verbs, spoil_coordinate, many_verbs];
+    let kinds: &[usize] = if rng.one_in(8) {
+        &[0, 1, 2, 3]
+    } else {
+        &[0, 1, 2]
+    };
+    for _ in 0..2 {
+        faults[rng.pick(kinds)](rng, case);
+    }
+}
+
+/// The lent lists' lengths, about what the mesh needs.
+fn lend(rng: &mut Rng, case: &mut MeshCase) {
+    let path = Path {
+        verbs: &case.verbs,
+        coordinates: &case.coordinates,
+    };
+    let mesh = drawn::<Reading>(path, case.options).unwrap_or_else(|_| {
+        // A refused path is lent short lists, to be found untouched.
+        Mesh {
+            vertices: vec![[0.0; 5]; rng.below(3)],
+            triangles: vec![[0; 3]; rng.below(3)],
+        }
+    });
+    let (floats, numbers) = (5 * mesh.vertices.len(), 3 * mesh.triangles.len());
+    let (vertex_len, triangle_len) = match rng.below(16) {
+        0..=4 => (floats, numbers),
+        5 => (floats.saturating_sub(1), numbers),
+        6 => (floats.saturating_sub(5), numbers + rng.below(4)),
+        7 => (floats, numbers.saturating_sub(1)),
+        8 => (floats + rng.below(5), numbers.saturating_sub(3)),
+        9 => (floats + rng.below(5), numbers + rng.below(3)),
+        10 => (floats + 5, numbers + 3),
+        11 => (floats + rng.below(60), numbers + rng.below(60)),
+        12 => (0, 0),
+        13 => (floats.saturating_sub(1), numbers.saturating_sub(1)),
+        14 => (floats, 0),
+        _ => (rng.below(floats + 1), rng.below(numbers + 1)),
+    };
+    case.vertex_len = vertex_len.min(MAX_VERTEX_LIST);
+    case.triangle_len = triangle_len.min(MAX_TRIANGLE_LIST);
+    if rng.one_in(10_000) {
+        case.vertex_len = MAX_VERTEX_LIST;
+        case.triangle_len = MAX_TRIANGLE_LIST;
+    }
+}

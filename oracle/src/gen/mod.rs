@@ -1,0 +1,81 @@
+//! Cases made from a seed: the same seed gives the same cases on every machine, since only whole
+//! numbers and correctly rounded f32 operations are used.
+
+mod bad;
+mod joins;
+mod meshes;
+mod paths;
+mod rng;
+mod shapes;
+mod small;
+mod texts;
+
+pub use rng::Rng;
+
+use crate::case::Case;
+
+#[derive(Clone, Copy, Debug, PartialEq, Eq)]
+pub enum Kind {
+    Mesh,
+    Read,
+    Root,
+    Normal,
+    Window,
+    Join,
+    Cap,
+    Bad,
+    All,
+}
+
+impl Kind {
+    pub fn of(word: &str) -> Option<Kind> {
+        match word {
+            "mesh" => Some(Kind::Mesh),
+            "read" => Some(Kind::Read),
+            "root" => Some(Kind::Root),
+            "normal" => Some(Kind::Normal),
+            "window" => Some(Kind::Window),
+            "join" => Some(Kind::Join),
+            "cap" => Some(Kind::Cap),
+            "bad" => Some(Kind::Bad),
+            "all" => Some(Kind::All),
+            _ => None,
+        }
+    }
+}
+
+/// A case line of that kind, without its line feed.
+pub fn line(rng: &mut Rng, kind: Kind) -> String {
+    match kind {
+        Kind::Bad => bad::bad(rng),
+        Kind::All if rng.one_in(12) => bad::bad(rng),
+        _ => case(rng, kind).line(),
+    }
+}
+
+/// A case of that kind; one of any kind where none is named.
+pub fn case(rng: &mut Rng, kind: Kind) -> Case {
+    match kind {
+        Kind::Mesh => Case::Mesh(meshes::mesh(rng)),
+        Kind::Read => Case::Read(texts::read(rng)),
+        Kind::Root => Case::Root(small::root(rng)),
+        Kind::Normal => Case::Normal(small::normal(rng)),
+        Kind::Window => Case::Window(small::window(rng)),
+        Kind::Join => Case::Join(joins::join(rng)),
+        Kind::Cap => Case::Cap(small::cap(rng)),
+        Kind::Bad | Kind::All => {
+            let kind = rng.pick(&[
+                Kind::Mesh,
+                Kind::Mesh,
+                Kind::Read,
+                Kind::Read,
+                Kind::Root,
+                Kind::Normal,
+                Kind::Window,
+                Kind::Join,
+                Kind::Cap,
+            ]);
+            case(rng, kind)
+        }
+    }
+}

@@ -1,0 +1,55 @@
+//! The program: path text in, a printed mesh or a refusal out.
+
+use crate::mesh::{mesh, Options};
+use crate::path::Path;
+use crate::reader::read;
+use crate::routines::Routines;
+use std::fmt::Write;
+
+/// "width 2, limit 4, Miter, Butt"
+const OPTIONS: Options = Options {
+    width: 2.0,
+    limit: 4.0,
+    join: 0,
+    cap: 0,
+};
+
+/// What the program prints for a text.
+pub fn run<R: Routines>(text: &[u8]) -> String {
+    let mut verbs = [0; 1024];
+    let mut coordinates = [0.0; 2048];
+    let read = read(text, &mut verbs, &mut coordinates);
+    if read.number != 0 {
+        return refused(read.number, read.place);
+    }
+    let path = Path {
+        verbs: &verbs[..read.counts.0],
+        coordinates: &coordinates[..read.counts.1],
+    };
+    let mut vertices = [0.0; 5 * 1024];
+    let mut triangles = [0; 3 * 1536];
+    let drawn = mesh::<R>(path, OPTIONS, &mut vertices, &mut triangles);
+    if drawn.number != 0 {
+        return refused(drawn.number, drawn.place);
+    }
+    let vertices = &vertices[..5 * drawn.counts.0];
+    let triangles = &triangles[..3 * drawn.counts.1];
+    printed(vertices, triangles).expect("a string takes any text")
+}
+
+fn refused(number: u32, place: usize) -> String {
+    format!("refused {} {}\n", number, place)
+}
+
+fn printed(vertices: &[f32], triangles: &[u16]) -> Result<String, std::fmt::Error> {
+    let mut out = String::new();
+    writeln!(out, "v {}", vertices.len() / 5)?;
+    for v in vertices.chunks_exact(5) {
+        writeln!(out, "{:08X} {:08X}", v[0].to_bits(), v[1].to_bits())?;
+    }
+    writeln!(out, "t {}", triangles.len() / 3)?;
+    for t in triangles.chunks_exact(3) {
+        writeln!(out, "{} {} {}", t[0], t[1], t[2])?;
+    }
+    Ok(out)
+}

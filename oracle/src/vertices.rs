@@ -1,0 +1,66 @@
+//! The mesh as it grows, and what is written into it: a joint's sides (rule 8) and the empty cap.
+
+use crate::endpoint::{Endpoint, Points, VertexId, NEGATIVE, POSITIVE};
+use crate::plane::{vector, Point, Vector};
+
+/// A vertex is x, y, normal x, normal y, advancement; a triangle three vertex numbers.
+#[derive(Clone, Debug, Default, PartialEq)]
+pub struct Mesh {
+    pub vertices: Vec<[f32; 5]>,
+    pub triangles: Vec<[u16; 3]>,
+}
+
+impl Mesh {
+    pub fn add_vertex(&mut self, place: Point, normal: Vector, advancement: f32) -> VertexId {
+        let number = VertexId(self.vertices.len() as u32);
+        self.vertices
+            .push([place.x, place.y, normal.x, normal.y, advancement]);
+        number
+    }
+
+    pub fn add_triangle(&mut self, corners: [VertexId; 3]) {
+        // At most 4,096 points of at most four vertices each: every number fits.
+        self.triangles.push(corners.map(|corner| corner.0 as u16));
+    }
+}
+
+/// A side's vertices before and after the joint: twice the same where it is Single.
+pub type SideIds = (VertexId, VertexId);
+
+/// Rule 8: positive side, then negative; in a pair, first point then second.
+pub fn write_joint(joint: &Endpoint, mesh: &mut Mesh) -> [SideIds; 2] {
+    [POSITIVE, NEGATIVE].map(|side| write_side(joint, joint.sides[side], mesh))
+}
+
+fn write_side(joint: &Endpoint, points: Points, mesh: &mut Mesh) -> SideIds {
+    match points {
+        Points::Single(single) => {
+            let id = write_vertex(joint, single, mesh);
+            (id, id)
+        }
+        Points::Pair(first, second) => {
+            let before = write_vertex(joint, first, mesh);
+            let after = write_vertex(joint, second, mesh);
+            (before, after)
+        }
+    }
+}
+
+/// Rule 8: "normal is (point - position)/h and its place is position + normal*h".
+fn write_vertex(joint: &Endpoint, point: Point, mesh: &mut Mesh) -> VertexId {
+    let h = joint.half_width;
+    let normal = (point - joint.position) / h;
+    mesh.add_vertex(joint.position + normal * h, normal, joint.advancement)
+}
+
+/// The empty cap: a square of four vertices with the source's whole normals, two triangles.
+pub fn write_empty_cap(endpoint: &Endpoint, mesh: &mut Mesh) {
+    let corners = [(1.0, 1.0), (1.0, -1.0), (-1.0, -1.0), (-1.0, 1.0)];
+    let [a, b, c, d] = corners.map(|(x, y)| {
+        let normal = vector(x, y);
+        let place = endpoint.position + normal * endpoint.half_width;
+        mesh.add_vertex(place, normal, endpoint.advancement)
+    });
+    mesh.add_triangle([a, b, c]);
+    mesh.add_triangle([a, c, d]);
+}

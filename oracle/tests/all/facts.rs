@@ -1,0 +1,147 @@
+//! Facts of every generated mesh: counts from kept points and pairs, triangles of a ladder,
+//! exact room, lists untouched by a refusal.
+
+use oracle::case::{Case, MeshCase};
+use oracle::endpoint::Points;
+use oracle::gen::{case, Kind, Rng};
+use oracle::line::{filled_floats, filled_numbers};
+use oracle::mesh::{drawn, mesh, Stroke};
+use oracle::outcome::Outcome;
+use oracle::path::{Path, Run};
+use oracle::strip::joints;
+use oracle::vertices::Mesh;
+use oracle::Judge;
+
+fn generated(seed: u64, count: usize) -> impl Iterator<Item = MeshCase> {
+    let mut rng = Rng::new(seed);
+    (0..count).filter_map(move |_| match case(&mut rng, Kind::Mesh) {
+        Case::Mesh(case) => Some(case),
+        _ => None,
+    })
+}
+
+fn path(case: &MeshCase) -> Path<'_> {
+    Path {
+        verbs: &case.verbs,
+        coordinates: &case.coordinates,
+    }
+}
+
+/// What document 01 says of a run's vertices and triangles, from n and d.
+fn counts(run: &Run, stroke: &Stroke) -> (usize, usize) {
+    let n = run.kept.len();
+    if n == 1 {
+        let drawn = stroke.square && (run.closed || run.has_line);
+        return if drawn { (4, 2) } else { (0, 0) };
+    }
+    let joints = joints::<Judge>(run, stroke);
+    let sides = joints.iter().flat_map(|joint| joint.sides);
+    let d = sides.filter(|s| matches!(s, Points::Pair(..))).count();
+    match run.closed {
+        true => (2 * n + d, 2 * n + d),
+        false => (2 * n + d, 2 * (n - 1) + d),
+    }
+}
+
+/// Each triangle has three different vertices of its run, every vertex is named, and each
+/// triangle but the first shares exactly two vertices with the one before.
+fn check_ladder(triangles: &[[u16; 3]], first: usize, vertices: usize) {
+    let mut named = vec![false; vertices];
+    for &[a, b, c] in triangles {
+        assert!(a != b && b != c && a != c);
+        for corner in [a, b, c] {
+            named[usize::from(corner) - first] = true;
+        }
+    }
+    assert!(named.into_iter().all(|named| named));
+    for pair in triangles.windows(2) {
+        let shared = pair[0].iter().filter(|corner| pair[1].contains(corner));
+        assert_eq!(shared.count(), 2);
+    }
+}
+
+fn check_floats(mesh: &Mesh) {
+    for vertex in &mesh.vertices {
+        assert!(vertex.iter().all(|float| float.is_finite()));
+        assert!(vertex[..2]
+            .iter()
+            .all(|&c| c != 0.0 || c.is_sign_positive()));
+    }
+}
+
+#[test]
+fn meshes_are_ladders() {
+    let mut accepted = 0;
+    for case in generated(31, 40_000) {
+        let mesh = match drawn::<Judge>(path(&case), case.options) {
+            Ok(mesh) => mesh,
+            Err(_) => continue,
+        };
+        accepted += 1;
+        check_floats(&mesh);
+        let stroke = case.options.check().expect("accepted options");
+        let (mut vertex, mut triangle) = (0, 0);
+        for run in path(&case).runs() {
+            let (vertices, triangles) = counts(&run, &stroke);
+            let of_run = &mesh.triangles[triangle..triangle + triangles];
+            check_ladder(of_run, vertex, vertices);
+            vertex += vertices;
+            triangle += triangles;
+        }
+        assert_eq!(
+            (vertex, triangle),
+            (mesh.vertices.len(), mesh.triangles.len())
+        );
+    }
+    assert!(accepted > 15_000);
+}
+
+/// The call on lists of those lengths; whatever it leaves alone must be as it was filled.
+fn call(case: &MeshCase, vertex_len: usize, triangle_len: usize) -> Outcome {
+    let mut vertices = filled_floats(vertex_len);
+    let mut triangles: Vec<u16> = filled_numbers(triangle_len);
+    let outcome = mesh::<Judge>(path(case), case.options, &mut vertices, &mut triangles);
+    let (v, t) = match outcome.number {
+        0 => (5 * outcome.counts.0, 3 * outcome.counts.1),
+        _ => (0, 0),
+    };
+    assert_eq!(vertices[v..], filled_floats(vertex_len)[v..]);
+    assert_eq!(triangles[t..], filled_numbers(triangle_len)[t..]);
+    outcome
+}
+
+#[test]
+fn exact_room_is_enough_and_one_less_is_not() {
+    for case in generated(32, 10_000) {
+        let mesh = match drawn::<Judge>(path(&case), case.options) {
+            Ok(mesh) => mesh,
+            Err(refusal) => {
+                assert_eq!(call(&case, 7, 5), refusal.into());
+                continue;
+            }
+        };
+        let counts = (mesh.vertices.len(), mesh.triangles.len());
+        let (v, t) = (5 * counts.0, 3 * counts.1);
+        assert_eq!(call(&case, v, t), Outcome::counted(0, counts));
+        assert_eq!(call(&case, v + 4, t + 2), Outcome::counted(0, counts));
+        if counts.0 > 0 {
+            assert_eq!(call(&case, v - 1, t), Outcome::counted(6, counts));
+            assert_eq!(call(&case, v, t - 1), Outcome::counted(7, counts));
+            assert_eq!(call(&case, v - 5, t - 3), Outcome::counted(6, counts));
+        }
+    }
+}
+
+#[test]
+fn every_refusal_is_generated() {
+    let mut seen = [0; 8];
+    for case in generated(33, 20_000) {
+        let number = call(&case, case.vertex_len, case.triangle_len).number;
+        seen[number as usize] += 1;
+    }
+    // 5 has never been seen: no two kept points of an edge have offset points so near.
+    assert_eq!(seen[5], 0);
+    for number in [0, 1, 2, 3, 4, 6, 7] {
+        assert!(seen[number] > 50, "{}: {}", number, seen[number]);
+    }
+}

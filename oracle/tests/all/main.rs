@@ -1,0 +1,15 @@
+//! All tests of the oracle, in one program.
+
+#[cfg(lyon_text)]
+mod agreement;
+mod common;
+mod facts;
+mod form;
+mod kept;
+mod lines;
+mod open_points;
+mod points;
+mod reader;
+mod refusals;
+mod root;
+mod rules;

@@ -1,0 +1,112 @@
+//! The reader beyond the open points: what commands mean, places, room.
+
+use crate::common::read;
+use oracle::reader;
+
+#[test]
+fn commands() {
+    let cases: [(&[u8], &[u8], &[f32]); 8] = [
+        (b"M1 2", &[0, 2], &[1.0, 2.0]),
+        (b"M1 2Z", &[0, 3], &[1.0, 2.0]),
+        (b"M1 2 3 4z", &[0, 1, 3], &[1.0, 2.0, 3.0, 4.0]),
+        (b"M1 2ZZ z", &[0, 3], &[1.0, 2.0]),
+        (b"M1 2M3 4", &[0, 2, 0, 2], &[1.0, 2.0, 3.0, 4.0]),
+        (b"M1 2ZM3 4", &[0, 3, 0, 2], &[1.0, 2.0, 3.0, 4.0]),
+        (
+            b"M1 2ZL3 4",
+            &[0, 3, 0, 1, 2],
+            &[1.0, 2.0, 1.0, 2.0, 3.0, 4.0],
+        ),
+        (
+            b"M1 2ZZL3 4Z",
+            &[0, 3, 0, 1, 3],
+            &[1.0, 2.0, 1.0, 2.0, 3.0, 4.0],
+        ),
+    ];
+    for (text, verbs, coordinates) in cases {
+        assert_eq!(read(text), (0, 0, verbs.to_vec(), coordinates.to_vec()));
+    }
+}
+
+#[test]
+fn separators_and_white_space() {
+    let texts: [&[u8]; 8] = [
+        b"M1-2L3+4",
+        b"M 1,-2 L 3,4",
+        b"\t\n\x0C\r M1 ,-2\tL\n3\x0C,\r4 ",
+        b"M1-2 3 4",
+        b"M1-2+3,4",
+        b"M+1 -2L+3 +4",
+        b"M01 -02L003 0004",
+        b"M1-2,3 4\n",
+    ];
+    for text in texts {
+        let (number, _, verbs, coordinates) = read(text);
+        assert_eq!((number, verbs), (0, vec![0, 1, 2]), "{:?}", text);
+        assert_eq!(coordinates, [1.0, -2.0, 3.0, 4.0]);
+    }
+}
+
+#[test]
+fn places_of_refusal_9() {
+    let places: [(&[u8], usize); 16] = [
+        (b"L0 0", 0),
+        (b"Z", 0),
+        (b" 1", 1),
+        (b"M", 1),
+        (b"M0", 2),
+        (b"M0 ", 3),
+        (b"M0L", 2),
+        (b"M0 0 1", 6),
+        (b"M0 0 1Z", 6),
+        (b"M--1", 2),
+        (b"M+", 2),
+        (b"M0 0m1 1", 4),
+        (b"M0 0l1 1", 4),
+        (b"M0.5 1", 2),
+        (b"M0 0Z1 1", 5),
+        (b"M0 0LZ", 5),
+    ];
+    for (text, place) in places {
+        let (number, at, verbs, coordinates) = read(text);
+        assert_eq!((number, at), (9, place), "{:?}", text);
+        assert!(verbs.is_empty() && coordinates.is_empty());
+    }
+}
+
+#[test]
+fn places_of_refusal_10() {
+    let places: [(&[u8], usize); 5] = [
+        (b"M32769 0", 1),
+        (b"M0 -32769", 3),
+        (b"M0+32769", 2),
+        (b"M0 0 1 1L+0000032769-99999", 9),
+        (b"M32768-32768L0 4294967296", 15),
+    ];
+    for (text, place) in places {
+        assert_eq!((read(text).0, read(text).1), (10, place), "{:?}", text);
+    }
+}
+
+#[test]
+fn room_for_verbs_and_coordinates() {
+    let with = |verbs: usize, coordinates: usize| {
+        let outcome = reader::read(
+            b"M0 0L1 1",
+            &mut vec![9; verbs],
+            &mut vec![9.0; coordinates],
+        );
+        (outcome.number, outcome.counts)
+    };
+    assert_eq!(with(3, 4), (0, (3, 4)));
+    assert_eq!(with(2, 4), (11, (0, 0)));
+    assert_eq!(with(3, 3), (11, (0, 0)));
+}
+
+#[test]
+fn over_4096_verbs() {
+    // A begin, its lines, its end.
+    let text = |verbs: usize| [b"M0 0".to_vec(), b"+1+1".repeat(verbs - 2)].concat();
+    assert_eq!(read(&text(4096)).2.len(), 4096);
+    assert_eq!((read(&text(4097)).0, read(&text(4097)).1), (11, 0));
+}
