@@ -1,5 +1,5 @@
 -- The root as a function: every f32 that has a root has the root `rootOf x`, so `root` answers `rootAnswer x`. Assumes nothing.
-use mathlib.Core.Path.{_≡_, sym, subst}
+use mathlib.Core.Path.{_≡_, refl, sym, ap, _∙_, subst}
 use Prim.Native.Nat.{ℕ, zero, suc, _+_, _-_, _*_, _/_, _^_, _≤_, _<_}
 use native.Mathlib.Nat.{lt-of-le-of-lt}
 use native.Mathlib.Omega.{arith}
@@ -11,6 +11,7 @@ use lib.Ieee.{Float, binary32, fits, ofBits, toBits}
 use lib.Ieee.Bits.{is-true, ofBits-toBits}
 use Rattle.root.specs.Root.{rootable, IsRoot, Close}
 use Rattle.root.specs.Answer.{Answers, answerOf}
+use Rattle.root.specs.Answer.{zero as plusZero}
 use Rattle.root.specs.Compute.{digit, floorRoot, roundRoot, exponent, operand, partsRoot, bitsRoot, rootOf, rootAnswer}
 use Rattle.root.specs.Steps.{Floor, Near, Split, BitsRoot}
 use Rattle.root.specs.declared.Answer.{Answer}
@@ -102,3 +103,12 @@ module _ (x : Float) (f : T (fits binary32 x)) where
 
   pub answers : (a : Answer) → Answers x a → a ≡ rootAnswer x
   answers a h = one-answer x a (rootAnswer x) h root-answers
+
+  -- the value alone, which is +0 where x has no root
+  pub value-is : (a : Answer) → Answers x a → a .value ≡ rootOf x
+  unfolding rootOf
+  value-is a h = ap (λ (b : Answer). b .value) (answers a h) ∙ same (rootable x) (cond (eqb (toBits binary32 x) 0) x (ofBits binary32 (bitsRoot (toBits binary32 x))))
+    where
+      same : (t : Bool) (r : Float) → answerOf (cond t (Root (cond t r plusZero)) Refused) .value ≡ cond t r plusZero
+      same true r = refl
+      same false r = refl
