@@ -1,0 +1,7 @@
+pub mod Back
+mod Examples
+pub mod Joined
+pub mod Patterns
+pub mod Placing
+pub mod Spaces
+pub mod Spelling

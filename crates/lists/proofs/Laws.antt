@@ -1,0 +1,49 @@
+-- Laws of `over`: it keeps the length, it is built element by element, and two lists one behind the other are written in turn. Assumes nothing.
+use Prim.Native.Nat.{suc, _≤_, _<_}
+use mathlib.Core.Path.{_≡_, refl, ap}
+use mathlib.Core.List.{List, [], _∷_, _++_}
+use native.Mathlib.Omega.{arith}
+use lib.ListN.{length, take, drop, set}
+use Rattle.lists.specs.Over.{over}
+
+module _ {A : Type 0} where
+  pub over-none : (xs : List A) → over [] xs ≡ xs
+  unfolding over
+  over-none xs = refl
+
+  pub length-over : (vs xs : List A) → length (over vs xs) ≡ length xs
+  unfolding over
+  length-over [] xs = refl
+  length-over (v ∷ vs) [] = refl
+  length-over (v ∷ vs) (x ∷ xs) = ap suc (length-over vs xs)
+
+  -- one element more
+  pub over-next : (vs : List A) (v : A) (xs : List A) → length vs < length xs → set (over vs xs) (length vs) v ≡ over (vs ++ (v ∷ [])) xs
+  unfolding over
+  over-next [] v [] h = refl
+  over-next [] v (x ∷ xs) h = refl
+  over-next (u ∷ vs) v [] h = refl
+  over-next (u ∷ vs) v (x ∷ xs) h = ap (λ (l : List A). u ∷ l) (over-next vs v xs (omega arith))
+
+  -- what a writer of three and a writer of five elements leaves
+  pub over-three : (a b c : A) (xs : List A) → 3 ≤ length xs → set (set (set xs 0 a) 1 b) 2 c ≡ over (a ∷ b ∷ c ∷ []) xs
+  unfolding over
+  over-three a b c xs h =
+      let h0 : 0 < length xs = omega arith in
+      let h1 : 1 < length xs = omega arith in
+      let h2 : 2 < length xs = omega arith in
+      rw (over-next [] a xs h0, over-next (a ∷ []) b xs h1, over-next (a ∷ b ∷ []) c xs h2)
+
+  pub over-five : (a b c d e : A) (xs : List A) → 5 ≤ length xs → set (set (set (set (set xs 0 a) 1 b) 2 c) 3 d) 4 e ≡ over (a ∷ b ∷ c ∷ d ∷ e ∷ []) xs
+  over-five a b c d e xs h =
+      let h2 : 3 ≤ length xs = omega arith in
+      let h3 : 3 < length xs = omega arith in
+      let h4 : 4 < length xs = omega arith in
+      rw (over-three a b c xs h2, over-next (a ∷ b ∷ c ∷ []) d xs h3, over-next (a ∷ b ∷ c ∷ d ∷ []) e xs h4)
+
+  -- two lists one behind the other
+  pub over-append : (vs ws xs : List A) → length vs ≤ length xs → over (vs ++ ws) xs ≡ take (length vs) (over vs xs) ++ over ws (drop (length vs) (over vs xs))
+  unfolding over
+  over-append [] ws xs h = refl
+  over-append (v ∷ vs) ws [] h = absurd (omega arith)
+  over-append (v ∷ vs) ws (x ∷ xs) h = ap (λ (l : List A). v ∷ l) (over-append vs ws xs (omega arith))
