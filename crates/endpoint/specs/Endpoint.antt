@@ -1,0 +1,38 @@
+-- What an endpoint's parts mean. Assumes nothing.
+use Prim.Native.Nat.{ℕ}
+use mathlib.Core.Bool.{false}
+use lib.Ieee.{Float, neg}
+use Rattle.plane.specs.F32.{f32}
+use Rattle.plane.specs.Vector.{point}
+use Rattle.endpoint.specs.declared.EndpointData.{EndpointData}
+use Rattle.endpoint.specs.declared.InnerJoin.the-variants.{Neither}
+use Rattle.endpoint.specs.declared.LineJoin.the-variants.{Miter}
+use Rattle.endpoint.specs.declared.Side.{Side}
+use Rattle.endpoint.specs.declared.Side.the-variants.{Positive, Negative}
+use Rattle.endpoint.specs.declared.SidePoints.{SidePoints}
+use Rattle.endpoint.specs.declared.SidePoints.the-variants.{Single, Pair}
+
+-- "an endpoint of zeros, Miter, both sides Single, no fold"
+abbrev pub blankOf : EndpointData
+blankOf = record {
+  position = point (f32 0) (f32 0);
+  «half_width» = f32 0;
+  advancement = f32 0;
+  «line_join» = Miter;
+  id = record { 0 = 0 };
+  positive = Single (f32 0) (f32 0);
+  negative = Single (f32 0) (f32 0);
+  «fold_positive» = false;
+  «fold_negative» = false;
+  «inner_join» = Neither;
+}
+
+-- "Side sign is 1 or -1."
+abbrev pub signOf : Side → Float
+signOf Positive = f32 0x3f800000
+signOf Negative = neg (f32 0x3f800000)
+
+-- "Each side is Single with its point or Pair with two points"
+abbrev pub sideCountOf : SidePoints → ℕ
+sideCountOf (Single x y) = 1
+sideCountOf (Pair x0 y0 x1 y1) = 2

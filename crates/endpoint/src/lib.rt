@@ -1,0 +1,85 @@
+// Endpoints as the joins see them: lyon's `EndpointData`, with what is optional there in cases.
+use plane::vector::Point;
+ghost use mathlib.Core.Path.{_≡_};
+ghost use Rattle.endpoint.specs.Endpoint.{blankOf, sideCountOf, signOf};
+
+// Endpoints and vertices are counted apart.
+pub struct EndpointId(pub u32);
+
+pub struct VertexId(pub u32);
+
+pub enum LineJoin {
+    Miter,
+    MiterClip,
+    Bevel,
+}
+
+pub enum Side {
+    Positive,
+    Negative,
+}
+
+// One side of a join: its one point, or its first and its second.
+pub enum SidePoints {
+    Single(f32, f32),
+    Pair(f32, f32, f32, f32),
+}
+
+// Which sides of a join are inner joins. The source's one field keeps the last side worked, so it
+// names the negative side where both are.
+pub enum InnerJoin {
+    Neither,
+    Positive,
+    Negative,
+    Both,
+}
+
+pub struct EndpointData {
+    pub position: Point,
+    pub half_width: f32,
+    pub advancement: f32,
+    pub line_join: LineJoin,
+    pub id: EndpointId,
+    pub positive: SidePoints,
+    pub negative: SidePoints,
+    pub fold_positive: bool,
+    pub fold_negative: bool,
+    pub inner_join: InnerJoin,
+}
+
+// An endpoint of zeros: Miter, both sides Single, no fold.
+pub fn blank() -> EndpointData
+    ensures { λ r. ⌜ r ≡ blankOf ⌝ }
+{
+    EndpointData {
+        position: Point { x: 0.0, y: 0.0 },
+        half_width: 0.0,
+        advancement: 0.0,
+        line_join: LineJoin::Miter,
+        id: EndpointId(0),
+        positive: SidePoints::Single(0.0, 0.0),
+        negative: SidePoints::Single(0.0, 0.0),
+        fold_positive: false,
+        fold_negative: false,
+        inner_join: InnerJoin::Neither,
+    }
+}
+
+pub fn side_sign(side: Side) -> f32
+    ensures { λ r. ⌜ r ≡ signOf side ⌝ }
+{
+    match side {
+        Side::Positive => 1.0,
+        Side::Negative => -1.0,
+    }
+}
+
+// How many vertices a side has.
+pub fn side_count(s: SidePoints) -> usize
+    ensures { λ r. ⌜ r ≡ sideCountOf s ⌝ }
+{
+    match s {
+        SidePoints::Single(_, _) => 1,
+        SidePoints::Pair(_, _, _, _) => 2,
+    }
+}

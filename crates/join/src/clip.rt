@@ -1,0 +1,65 @@
+// Rule 6: where a side is cut off beyond the limit.
+use plane::vector::Point;
+use plane::vector::dot;
+use plane::vector::length;
+use plane::vector::normalize;
+use plane::vector::over;
+use plane::vector::plus;
+use plane::vector::times;
+use plane::vector::turned;
+ghost use mathlib.Core.Path.{_≡_};
+ghost use Rattle.join.specs.Clip.{sideLineOf, unmovedOf, movedOf, clippedOf};
+
+// The line along which an offset moves: its own side's, a quarter turn from it.
+struct SideLine {
+    length: f32,
+    d: Point,
+}
+
+fn side_line(a: Point) -> SideLine
+    ensures { λ r. ⌜ r ≡ sideLineOf a ⌝ }
+{
+    let side = turned(a);
+    let l = length(side);
+    SideLine {
+        length: l,
+        d: over(side, l),
+    }
+}
+
+// Whether an offset stays where it is: it has no length, or its side runs along the cut.
+fn is_unmoved(length: f32, along: f32) -> bool
+    ensures { λ r. ⌜ r ≡ unmovedOf length along ⌝ }
+{
+    if length == 0.0 {
+        return true;
+    }
+    -0.0009765625 < along && along < 0.0009765625
+}
+
+// The offset a, moved along a line to the cut that lies at the distance c in the direction u.
+fn moved(a: Point, line: SideLine, u: Point, c: f32) -> Point
+    ensures { λ r. ⌜ r ≡ movedOf a line u c ⌝ }
+{
+    let along = dot(line.d, u);
+    if is_unmoved(line.length, along) {
+        return a;
+    }
+    plus(a, times(line.d, (c - dot(a, u)) / along))
+}
+
+// The two offsets of a side, each cut off.
+pub struct Clipped {
+    pub prev: Point,
+    pub next: Point,
+}
+
+pub fn get_clip_intersections(prev: Point, next: Point, normal: Point, distance: f32) -> Clipped
+    ensures { λ r. ⌜ r ≡ clippedOf prev next normal distance ⌝ }
+{
+    let u = normalize(normal);
+    Clipped {
+        prev: moved(prev, side_line(prev), u, distance),
+        next: moved(next, side_line(next), u, distance),
+    }
+}

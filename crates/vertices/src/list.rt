@@ -1,0 +1,31 @@
+// One vertex and one triangle at the start of a part.
+use endpoint::VertexId;
+use plane::vector::Point;
+ghost use mathlib.Core.Path.{_≡_};
+ghost use Prim.Native.Nat.{_+_, _≤_, _<_};
+ghost use lib.ListN.{length};
+ghost use Rattle.lists.specs.Over.{over};
+ghost use Rattle.vertices.specs.Vertex.{vertexOf, triangleOf};
+
+// Five floats: place, normal, advancement.
+pub fn put_vertex(v: &mut [f32], place: Point, normal: Point, a: f32)
+    requires { ⌜ 5 ≤ length (now v) ⌝ }
+    ensures { λ _. ⌜ now (v .exit) ≡ over (vertexOf place normal a) (now (v .entry)) ⌝ }
+{
+    v[0] = place.x;
+    v[1] = place.y;
+    v[2] = normal.x;
+    v[3] = normal.y;
+    v[4] = a;
+}
+
+// Three numbers of vertices.
+pub fn put_triangle(t: &mut [u16], a: VertexId, b: VertexId, c: VertexId)
+    requires { ⌜ 3 ≤ length (now t) ⌝ }
+    requires { ⌜ (a .0 < 65536) × (b .0 < 65536) × (c .0 < 65536) ⌝ }
+    ensures { λ _. ⌜ now (t .exit) ≡ over (triangleOf a b c) (now (t .entry)) ⌝ }
+{
+    t[0] = a.0 as u16;
+    t[1] = b.0 as u16;
+    t[2] = c.0 as u16;
+}
