@@ -1,0 +1,41 @@
+-- `path::check_answer_of` meets its contract. Assumes nothing.
+use borrow.Author.Needs.{needs}
+use Rattle.path.proofs.check_answer_of.Statement.{statement}
+use Rattle.path.proofs.check_answer_of.Tie as tie
+
+enum-told : tie.Need-enum-told
+enum-told c = search needs
+
+enum-told-2 : tie.Need-enum-told-2
+enum-told-2 c = search needs
+
+enum-known-c : tie.Need-enum-known-c
+enum-known-c c = search needs
+
+enum-known-c-2 : tie.Need-enum-known-c-2
+enum-known-c-2 c = search needs
+
+returns : tie.Need-returns
+returns c = rw (c .enum-told .given .1)
+
+returns-2 : tie.Need-returns-2
+returns-2 c = rw (c .enum-told2 .given .1)
+
+returns-3 : tie.Need-returns-3
+returns-3 c = rw (c .before .c .given .1)
+
+returns-4 : tie.Need-returns-4
+returns-4 c = rw (c .before .c2 .given .1)
+
+pub check-answer-of-spec : {M : Type 1} → statement M
+check-answer-of-spec =
+    tie.close
+    (tie.spec
+    enum-told
+    enum-told-2
+    enum-known-c
+    enum-known-c-2
+    returns
+    returns-2
+    returns-3
+    returns-4)

@@ -1,0 +1,22 @@
+-- `path::options::stroke_of` meets its contract. Assumes nothing.
+use borrow.Author.Needs.{needs}
+use Rattle.path.specs.Options.{strokeOf}
+use Rattle.path.proofs.options.stroke_of.Statement.{statement}
+use Rattle.path.proofs.options.stroke_of.Tie as tie
+
+is-in-range-requires : tie.Need-is-in-range-requires
+is-in-range-requires c κs = search needs
+
+prepared-requires : tie.Need-prepared-requires
+prepared-requires c κs = search needs
+
+returns : tie.Need-returns
+unfolding strokeOf
+returns c = rw (c .prepared .ensures, ← c .before .before .is-in-range .ensures, c .before .if1 .taken)
+
+returns-2 : tie.Need-returns-2
+unfolding strokeOf
+returns-2 c = rw (← c .before .is-in-range .ensures, c .if1 .left)
+
+pub stroke-of-spec : {M : Type 1} → statement M
+stroke-of-spec = tie.close (tie.spec is-in-range-requires prepared-requires returns returns-2)

@@ -1,0 +1,64 @@
+-- The options, their ranges, and what the rules use of them. Assumes nothing.
+use Prim.Native.Nat.{ℕ}
+use mathlib.Core.Bool.{Bool, _&&_}
+use lib.Dec.{leb, eqb}
+use lib.Ieee.{Float, le}
+use Rattle.plane.specs.F32.{_⊗_, f32}
+use Rattle.plane.specs.Normal.{pick}
+use Rattle.endpoint.specs.declared.LineJoin.{LineJoin}
+use Rattle.endpoint.specs.declared.LineJoin.the-variants.{Miter, MiterClip, Bevel}
+use Rattle.path.specs.declared.CheckAnswer.{CheckAnswer}
+use Rattle.path.specs.declared.options.Options.{Options}
+use Rattle.path.specs.declared.options.Stroke.{Stroke}
+use Rattle.path.specs.declared.options.StrokeAnswer.{StrokeAnswer}
+use Rattle.path.specs.declared.options.StrokeAnswer.the-variants as answer
+
+unfoldable pub within : Float → Float → Float → Bool
+within low x high = le low x && le x high
+
+-- "width 1/256 to 16,384"
+abbrev pub widthIn : Float → Bool
+widthIn w = within (f32 0x3b800000) w (f32 0x46800000)
+
+-- "miter limit 1 to 1,024"
+abbrev pub limitIn : Float → Bool
+limitIn m = within (f32 0x3f800000) m (f32 0x44800000)
+
+-- "join 0 Miter, 1 MiterClip, 2 Bevel"
+abbrev pub joinIn : ℕ → Bool
+joinIn n = leb n 2
+
+unfoldable pub lineJoinOf : ℕ → LineJoin
+lineJoinOf n = pick (eqb n 0) Miter (pick (eqb n 1) MiterClip Bevel)
+
+-- "cap 0 Butt, 1 Square"
+abbrev pub capIn : ℕ → Bool
+capIn n = leb n 1
+
+unfoldable pub inRange : Options → Bool
+inRange o = widthIn (o .width) && limitIn (o .«miter_limit») && (joinIn (o .«line_join») && capIn (o .cap))
+
+-- "clip is h for Square and 0 for Butt"
+unfoldable pub clipOf : Bool → Float → Float
+clipOf square h = pick square h (f32 0)
+
+-- "Half width h is width * 0.5."
+unfoldable pub preparedOf : Options → Stroke
+preparedOf o =
+    let h = o .width ⊗ f32 0x3f000000 in
+    let square = eqb (o .cap) 1 in
+    record {
+      «half_width» = h;
+      «miter_limit» = o .«miter_limit»;
+      «line_join» = lineJoinOf (o .«line_join»);
+      square = square;
+      clip = clipOf square h;
+    }
+
+unfoldable pub strokeOf : Options → StrokeAnswer
+strokeOf o = pick (inRange o) (answer.Stroke (preparedOf o)) answer.Refused
+
+-- "1: an option outside its range, NaN included", place 0
+abbrev pub strokeAnswerOf : StrokeAnswer → CheckAnswer
+strokeAnswerOf (answer.Stroke s) = record { number = 0; place = 0 }
+strokeAnswerOf answer.Refused = record { number = 1; place = 0 }

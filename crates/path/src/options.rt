@@ -1,0 +1,114 @@
+// The options of a stroke: as a caller hands them over, and as the rules use them.
+use crate::CheckAnswer;
+use endpoint::LineJoin;
+ghost use mathlib.Core.Path.{_≡_};
+ghost use Rattle.path.specs.Options.{within, inRange, lineJoinOf, clipOf, preparedOf, strokeOf, strokeAnswerOf};
+
+// What a caller may choose. An option outside its range is refused with 1.
+pub struct Options {
+    // The stripe's width, in the units of the coordinates: 1/256 to 16,384.
+    pub width: f32,
+    // How far the tip of a join may lie from its point, in half widths: 1 to 1,024.
+    pub miter_limit: f32,
+    // The shape of a corner: 0 Miter, a tip, or beyond the limit a Bevel; 1 MiterClip, a tip, or
+    // beyond the limit one that is cut off there; 2 Bevel, the corner cut straight across.
+    pub line_join: u32,
+    // The shape of both ends of an open run: 0 Butt, ending at the point; 1 Square, half a width
+    // beyond it.
+    pub cap: u32,
+}
+
+// What rules 4 to 7 use.
+pub struct Stroke {
+    // The rules' h.
+    pub half_width: f32,
+    pub miter_limit: f32,
+    pub line_join: LineJoin,
+    // Whether the cap is Square.
+    pub square: bool,
+    // How far a cap stands out beyond its point.
+    pub clip: f32,
+}
+
+// What `stroke_of` says: the options as the rules use them, or refusal 1.
+pub enum StrokeAnswer {
+    Stroke(Stroke),
+    Refused,
+}
+
+// No NaN is within anything.
+fn is_within(low: f32, x: f32, high: f32) -> bool
+    ensures { λ r. ⌜ r ≡ within low x high ⌝ }
+{
+    low <= x && x <= high
+}
+
+// The least width, 1/256, is 0.00390625.
+fn is_in_range(o: Options) -> bool
+    ensures { λ r. ⌜ r ≡ inRange o ⌝ }
+{
+    if !is_within(0.00390625, o.width, 16384.0) {
+        return false;
+    }
+    if !is_within(1.0, o.miter_limit, 1024.0) {
+        return false;
+    }
+    o.line_join <= 2 && o.cap <= 1
+}
+
+fn line_join_of(number: u32) -> LineJoin
+    ensures { λ r. ⌜ r ≡ lineJoinOf number ⌝ }
+{
+    match number {
+        0 => LineJoin::Miter,
+        1 => LineJoin::MiterClip,
+        _ => LineJoin::Bevel,
+    }
+}
+
+// Rule 7.
+fn clip_of(square: bool, h: f32) -> f32
+    ensures { λ r. ⌜ r ≡ clipOf square h ⌝ }
+{
+    if square { h } else { 0.0 }
+}
+
+// What options within their ranges come to.
+fn prepared(o: Options) -> Stroke
+    ensures { λ r. ⌜ r ≡ preparedOf o ⌝ }
+{
+    let h = o.width * 0.5;
+    let square = o.cap == 1;
+    Stroke {
+        half_width: h,
+        miter_limit: o.miter_limit,
+        line_join: line_join_of(o.line_join),
+        square: square,
+        clip: clip_of(square, h),
+    }
+}
+
+pub fn stroke_of(o: Options) -> StrokeAnswer
+    ensures { λ r. ⌜ r ≡ strokeOf o ⌝ }
+{
+    if is_in_range(o) {
+        return StrokeAnswer::Stroke(prepared(o));
+    }
+    StrokeAnswer::Refused
+}
+
+// The number and the place that an answer stands for.
+pub fn stroke_answer_of(s: StrokeAnswer) -> CheckAnswer
+    ensures { λ r. ⌜ r ≡ strokeAnswerOf s ⌝ }
+{
+    match s {
+        StrokeAnswer::Stroke(_) => CheckAnswer {
+            number: 0,
+            place: 0,
+        },
+        StrokeAnswer::Refused => CheckAnswer {
+            number: 1,
+            place: 0,
+        },
+    }
+}
