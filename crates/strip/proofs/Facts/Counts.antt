@@ -1,0 +1,38 @@
+-- Demand 3's counts: each move is a triangle and names one vertex more. Assumes nothing.
+use Prim.Native.Nat.{ℕ, _+_, _*_}
+use mathlib.Core.Path.{_≡_, refl}
+use mathlib.Core.Bool.{true, false}
+use mathlib.Core.List.{List, [], _∷_}
+use native.Mathlib.Omega.{arith}
+use lib.ListN.{length, length-append}
+use Rattle.endpoint.specs.declared.EndpointData.{EndpointData}
+use Rattle.strip.specs.Facts.{pairSides}
+use Rattle.strip.specs.Joint.{jointCount, vertexCount}
+use Rattle.strip.specs.Triangle.{trianglesOf}
+use Rattle.strip.proofs.Joints.{side-few, count-more}
+use Rattle.strip.proofs.Facts.Ladder.{length-ladder, length-inner}
+use Rattle.strip.proofs.Facts.Moves.{movesOf, open-moves, closed-moves}
+
+-- "2n+d vertices", of n joints
+pub vertices-are : (js : List EndpointData) → vertexCount js ≡ 2 * length js + pairSides js
+unfolding vertexCount pairSides
+vertices-are [] = refl
+vertices-are (j ∷ js) =
+    let p = side-few (j .positive) in
+    let n = side-few (j .negative) in
+    omega (arith, vertices-are js)
+
+length-moves : (k : ℕ) (js : List EndpointData) → length (movesOf k js) ≡ vertexCount js
+unfolding movesOf vertexCount
+length-moves k [] = refl
+length-moves k (j ∷ js) = simp length-append (omega (arith, length-inner k j, length-moves (k + jointCount j) js))
+
+-- an open run: "2(n-1)+d triangles", two fewer than its vertices
+pub open-count : (k : ℕ) (j : EndpointData) (js : List EndpointData) → 2 + length (trianglesOf false k (j ∷ js)) ≡ vertexCount (j ∷ js)
+open-count k j js =
+    rw (open-moves k j js, length-ladder, length-append) (omega (arith, count-more j js, length-inner k j, length-moves (k + jointCount j) js))
+
+-- a closed run: "2n+d and 2n+d"
+pub closed-count : (k : ℕ) (j i : EndpointData) (js : List EndpointData) → length (trianglesOf true k (j ∷ i ∷ js)) ≡ vertexCount (j ∷ i ∷ js)
+closed-count k j i js =
+    rw (closed-moves k j i js, length-ladder, length-append, length-append) (omega (arith, count-more j (i ∷ js), length-inner k j, length-moves (k + jointCount j) (i ∷ js)))

@@ -1,0 +1,93 @@
+-- Demand 3: each triangle of a run names three different vertices of the run. Assumes nothing.
+use Prim.Native.Nat.{ℕ, _+_, _≤_}
+use mathlib.Core.Path.{sym}
+use mathlib.Core.Bool.{true, false}
+use mathlib.Core.List.{List, [], _∷_, _++_}
+use mathlib.Core.Logic.{_≢_}
+use native.Mathlib.Omega.{arith}
+use Rattle.endpoint.specs.Endpoint.{sideCountOf}
+use Rattle.endpoint.specs.declared.EndpointData.{EndpointData}
+use Rattle.endpoint.specs.declared.SidePoints.{SidePoints}
+use Rattle.endpoint.specs.declared.SidePoints.the-variants.{Single, Pair}
+use Rattle.strip.specs.Facts.{In, AllOwn}
+use Rattle.strip.specs.Joint.{jointCount, vertexCount}
+use Rattle.strip.specs.Triangle.{trianglesOf}
+use Rattle.strip.proofs.Joints.{side-few, count-more}
+use Rattle.strip.proofs.Facts.Ladder.{Move, toP, toN, ladder, beforeN, inP, inN, inner}
+use Rattle.strip.proofs.Facts.Moves.{movesOf, home, open-moves, closed-moves}
+use Rattle.strip.proofs.Facts.Fresh.{Fresh, open-fresh, closed-fresh}
+
+-- the moves are to vertices of the run
+abbrev Within : ℕ → ℕ → List Move → Type 0
+Within lo hi [] = Unit
+Within lo hi (toP x ∷ ms) = In lo hi x × Within lo hi ms
+Within lo hi (toN x ∷ ms) = In lo hi x × Within lo hi ms
+
+within-append : (lo hi : ℕ) (xs ys : List Move) → Within lo hi xs → Within lo hi ys → Within lo hi (xs ++ ys)
+within-append lo hi [] ys f g = g
+within-append lo hi (toP x ∷ xs) ys f g = (f .0, within-append lo hi xs ys (f .1) g)
+within-append lo hi (toN x ∷ xs) ys f g = (f .0, within-append lo hi xs ys (f .1) g)
+
+within-inner : (lo hi k : ℕ) (j : EndpointData) → lo ≤ k → k + jointCount j ≤ hi → Within lo hi (inner k j)
+unfolding inner inP inN
+within-inner lo hi k j f g = go (j .positive) (j .negative) g
+  where
+    go : (s t : SidePoints) → k + (sideCountOf s + sideCountOf t) ≤ hi → Within lo hi (inP k s ++ inN (k + sideCountOf s) t)
+    go (Single a b) (Single c d) h = tt
+    go (Single a b) (Pair c d e z) h = ((omega arith, omega arith), tt)
+    go (Pair a b c d) (Single e z) h = ((omega arith, omega arith), tt)
+    go (Pair a b c d) (Pair e z x y) h = ((omega arith, omega arith), ((omega arith, omega arith), tt))
+
+within-home : (lo hi k : ℕ) (j : EndpointData) → lo ≤ k → k + jointCount j ≤ hi → Within lo hi (home k j)
+within-home lo hi k j f g =
+    let q = side-few (j .positive) in
+    let r = side-few (j .negative) in
+    ((omega arith, omega arith), ((omega arith, omega arith), tt))
+
+within-moves : (lo hi k : ℕ) (js : List EndpointData) → lo ≤ k → k + vertexCount js ≤ hi → Within lo hi (movesOf k js)
+unfolding movesOf
+within-moves lo hi k [] f g = tt
+within-moves lo hi k (j ∷ js) f g =
+    let v = count-more j js in
+    let m = k + jointCount j in
+    let h : m ≤ hi = omega arith in
+    within-append lo hi (home k j) (inner k j ++ movesOf m js) (within-home lo hi k j f h)
+    (within-append lo hi (inner k j) (movesOf m js) (within-inner lo hi k j f h) (within-moves lo hi m js (omega arith) (omega arith)))
+
+own : (lo hi : ℕ) (rs : List ℕ) (n p : ℕ) (ms : List Move) → n ≢ p → In lo hi n → In lo hi p → Fresh rs n p ms → Within lo hi ms → AllOwn lo hi (ladder n p ms)
+unfolding ladder
+own lo hi rs n p [] d a b f w = tt
+own lo hi rs n p (toP x ∷ ms) d a b f w = (
+  record { ab = d; bc = λ z. f .0 .notP (sym z); ac = λ z. f .0 .notN (sym z); inA = a; inB = b; inC = w .0 },
+  own lo hi (p ∷ []) n x ms (λ z. f .0 .notN (sym z)) a (w .0) (f .1) (w .1),
+)
+own lo hi rs n p (toN x ∷ ms) d a b f w = (
+  record { ab = d; bc = λ z. f .0 .notP (sym z); ac = λ z. f .0 .notN (sym z); inA = a; inB = b; inC = w .0 },
+  own lo hi (n ∷ []) x p ms (f .0 .notP) (w .0) b (f .1) (w .1),
+)
+
+-- from the first joint's section on, whatever the other moves are
+own-run : (k : ℕ) (j : EndpointData) (js : List EndpointData) (ms : List Move) → Fresh [] (beforeN k j) k (inner k j ++ ms) → Within k (k + vertexCount (j ∷ js)) ms
+    → AllOwn k (k + vertexCount (j ∷ js)) (ladder (beforeN k j) k (inner k j ++ ms))
+own-run k j js ms f w =
+    let q = side-few (j .positive) in
+    let r = side-few (j .negative) in
+    let v = count-more j js in
+    let hi = k + vertexCount (j ∷ js) in
+    own k hi [] (beforeN k j) k (inner k j ++ ms) (λ z. omega arith) (omega arith, omega arith) (omega arith, omega arith) f
+    (within-append k hi (inner k j) ms (within-inner k hi k j (omega arith) (omega arith)) w)
+
+pub open-own : (k : ℕ) (j : EndpointData) (js : List EndpointData) → AllOwn k (k + vertexCount (j ∷ js)) (trianglesOf false k (j ∷ js))
+open-own k j js =
+    let v = count-more j js in
+    let m = k + jointCount j in
+    rw (open-moves k j js) (own-run k j js (movesOf m js) (open-fresh k j js) (within-moves k (k + vertexCount (j ∷ js)) m js (omega arith) (omega arith)))
+
+pub closed-own : (k : ℕ) (j i : EndpointData) (js : List EndpointData) → AllOwn k (k + vertexCount (j ∷ i ∷ js)) (trianglesOf true k (j ∷ i ∷ js))
+closed-own k j i js =
+    let v = count-more j (i ∷ js) in
+    let m = k + jointCount j in
+    let hi = k + vertexCount (j ∷ i ∷ js) in
+    rw (closed-moves k j i js)
+    (own-run k j (i ∷ js) (movesOf m (i ∷ js) ++ home k j) (closed-fresh k j i js)
+    (within-append k hi (movesOf m (i ∷ js)) (home k j) (within-moves k hi m (i ∷ js) (omega arith) (omega arith)) (within-home k hi k j (omega arith) (omega arith))))

@@ -1,0 +1,50 @@
+-- Laws of a run's vertices and of their count: five floats to a vertex, one vertex or two to a side, joint after joint. Assumes nothing.
+use Prim.Native.Nat.{_+_, _*_, _≤_}
+use mathlib.Core.Path.{_≡_, refl}
+use mathlib.Core.List.{List, [], _∷_, _++_, append-assoc, append-nil}
+use native.Mathlib.Omega.{arith}
+use lib.ListN.{length, length-append}
+use Rattle.endpoint.specs.Endpoint.{sideCountOf}
+use Rattle.endpoint.specs.declared.EndpointData.{EndpointData}
+use Rattle.endpoint.specs.declared.SidePoints.{SidePoints}
+use Rattle.endpoint.specs.declared.SidePoints.the-variants.{Single, Pair}
+use Rattle.vertices.proofs.Laws.{length-side}
+use Rattle.strip.specs.Joint.{jointCount, vertexCount, jointVerticesOf, verticesOf}
+
+pub side-few : (s : SidePoints) → (1 ≤ sideCountOf s) × (sideCountOf s ≤ 2)
+side-few (Single x y) = (omega arith, omega arith)
+side-few (Pair x0 y0 x1 y1) = (omega arith, omega arith)
+
+pub length-joint : (j : EndpointData) → length (jointVerticesOf j) ≡ 5 * jointCount j
+unfolding jointVerticesOf
+length-joint j = rw (length-append, length-side j (j .positive), length-side j (j .negative)) (omega arith)
+
+pub length-vertices : (js : List EndpointData) → length (verticesOf js) ≡ 5 * vertexCount js
+unfolding verticesOf vertexCount
+length-vertices [] = refl
+length-vertices (j ∷ js) = rw (length-append, length-joint, length-vertices js) (omega arith)
+
+pub vertices-append : (xs ys : List EndpointData) → verticesOf (xs ++ ys) ≡ verticesOf xs ++ verticesOf ys
+unfolding verticesOf
+vertices-append [] ys = refl
+vertices-append (x ∷ xs) ys = rw (vertices-append xs ys, append-assoc)
+
+pub vertices-one : (j : EndpointData) → verticesOf (j ∷ []) ≡ jointVerticesOf j
+unfolding verticesOf
+vertices-one j = append-nil (jointVerticesOf j)
+
+pub count-none : vertexCount [] ≡ 0
+unfolding vertexCount
+count-none = refl
+
+pub count-more : (j : EndpointData) (js : List EndpointData) → vertexCount (j ∷ js) ≡ jointCount j + vertexCount js
+unfolding vertexCount
+count-more j js = refl
+
+pub count-one : (j : EndpointData) → vertexCount (j ∷ []) ≡ jointCount j
+count-one j = omega (arith, count-more j [], count-none)
+
+pub count-append : (xs ys : List EndpointData) → vertexCount (xs ++ ys) ≡ vertexCount xs + vertexCount ys
+unfolding vertexCount
+count-append [] ys = omega arith
+count-append (x ∷ xs) ys = omega (arith, count-append xs ys)

@@ -1,0 +1,7 @@
+-- What is written: `Joint` rule 8's vertices, `Section` and `Triangle` rule 9, `Strip` the same joint by joint, with the contracts' records; `Facts` is demand 3.
+-- Assumes nothing.
+pub mod Joint
+pub mod Section
+pub mod Triangle
+pub mod Strip
+pub mod Facts

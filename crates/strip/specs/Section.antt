@@ -1,0 +1,29 @@
+-- Rule 9: the sections of a run. Assumes nothing.
+use Prim.Native.Nat.{ℕ, _+_, _-_, _<_}
+use mathlib.Core.List.{List, [], _∷_}
+use Rattle.endpoint.specs.Endpoint.{sideCountOf}
+use Rattle.endpoint.specs.declared.EndpointData.{EndpointData}
+use Rattle.strip.specs.declared.section.Section.{Section}
+use Rattle.strip.specs.Joint.{jointCount}
+
+-- "A section is (N, P), its negative and positive vertex."
+abbrev pub sectionOf : ℕ → ℕ → Section
+sectionOf n p = record { negative = record { 0 = n }; positive = record { 0 = p } }
+
+-- "A join has two sections, before and after it.": before it the first vertex of each side, where the joint's vertices are numbered from k
+abbrev pub beforeOf : ℕ → EndpointData → Section
+beforeOf k j = sectionOf (k + sideCountOf (j .positive)) k
+
+-- after it the last vertex of each side
+abbrev pub afterOf : ℕ → EndpointData → Section
+afterOf k j = sectionOf (k + sideCountOf (j .positive) + sideCountOf (j .negative) - 1) (k + sideCountOf (j .positive) - 1)
+
+-- the sections in the run's order; "Vertex numbers go on"
+unfoldable pub sections : ℕ → List EndpointData → List Section
+sections k [] = []
+sections k (j ∷ js) = beforeOf k j ∷ afterOf k j ∷ sections (k + jointCount j) js
+
+-- a u16 holds the section's numbers
+pub record Narrow (s : Section) : Type 0 where
+  pub n : s .negative .0 < 65536
+  pub p : s .positive .0 < 65536

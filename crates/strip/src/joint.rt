@@ -1,0 +1,42 @@
+// Rule 8: a joint's vertices, the positive side's and then the negative side's.
+use endpoint::EndpointData;
+use endpoint::Side;
+use endpoint::side_count;
+use vertices::base::add_join_base_vertices;
+ghost use mathlib.Core.Path.{_≡_};
+ghost use Prim.Native.Nat.{_*_, _≤_};
+ghost use lib.ListN.{length};
+ghost use Rattle.endpoint.specs.Endpoint.{sideCountOf};
+ghost use Rattle.lists.specs.Over.{over};
+ghost use Rattle.strip.specs.Joint.{jointCount, jointVerticesOf};
+
+// How many vertices a joint has on each side, and in all.
+pub fn positive_count(j: EndpointData) -> usize
+    ensures { λ r. ⌜ r ≡ sideCountOf (j .positive) ⌝ }
+{
+    let p = j.positive;
+    side_count(p)
+}
+
+pub fn negative_count(j: EndpointData) -> usize
+    ensures { λ r. ⌜ r ≡ sideCountOf (j .negative) ⌝ }
+{
+    let n = j.negative;
+    side_count(n)
+}
+
+pub fn joint_count(j: EndpointData) -> usize
+    ensures { λ r. ⌜ r ≡ jointCount j ⌝ }
+{
+    positive_count(j) + negative_count(j)
+}
+
+// Both sides' vertices.
+pub fn write_vertices(v: &mut [f32], j: EndpointData)
+    requires { ⌜ 5 * jointCount j ≤ length (now v) ⌝ }
+    ensures { λ _. ⌜ now (v .exit) ≡ over (jointVerticesOf j) (now (v .entry)) ⌝ }
+{
+    add_join_base_vertices(v, j, Side::Positive);
+    let at = 5 * positive_count(j);
+    add_join_base_vertices(&mut v[at..], j, Side::Negative);
+}

@@ -1,0 +1,91 @@
+// A run's strip: its joints, one by one, become vertices, sections and triangles (rules 8 and 9 of
+// document 01). `write` is at the start of the parts lent, `put` behind what the state counts.
+use crate::joint::joint_count;
+use crate::joint::write_vertices;
+use crate::section::Section;
+use crate::section::after;
+use crate::section::before;
+use crate::section::choose;
+use crate::section::section_of;
+use crate::triangle::write_between;
+use crate::triangle::write_past;
+use endpoint::EndpointData;
+ghost use mathlib.Core.Path.{_≡_};
+ghost use mathlib.Core.List.{[], _∷_};
+ghost use Prim.Native.Nat.{_*_, _≤_};
+ghost use lib.ListN.{length};
+ghost use Rattle.lists.specs.Over.{over};
+ghost use Rattle.strip.specs.Triangle.{flatT, between};
+ghost use Rattle.strip.specs.Strip.{Sound, Room, Emits, Has, Puts, startOf};
+
+pub mod joint;
+pub mod section;
+mod triangle;
+
+// How far a run's strip has come: the number of its first vertex, what it has so far, and its
+// first and its last section once it has begun.
+pub struct Strip {
+    pub base: usize,
+    pub vertices: usize,
+    pub triangles: usize,
+    pub begun: bool,
+    pub first: Section,
+    pub last: Section,
+}
+
+// A run whose vertices are numbered from base.
+pub fn start(base: usize) -> Strip
+    ensures { λ r. ⌜ r ≡ startOf base ⌝ }
+{
+    let none = section_of(0, 0);
+    Strip {
+        base,
+        vertices: 0,
+        triangles: 0,
+        begun: false,
+        first: none,
+        last: none,
+    }
+}
+
+// One joint more: from the last section to the one before it, and on to the one after it.
+fn write_joint(v: &mut [f32], t: &mut [u16], s: Strip, j: EndpointData) -> Strip
+    requires { ⌜ Room s (j ∷ []) (now v) (now t) ⌝ }
+    ensures { λ r. ⌜ Emits (j ∷ []) s (now (v .entry)) (now (v .exit)) (now (t .entry)) (now (t .exit)) r ⌝ }
+{
+    let k = s.base + s.vertices;
+    let b = before(k, j);
+    let a = after(k, j);
+    let last = choose(s.begun, s.last, b);
+    let first = choose(s.begun, s.first, b);
+    write_vertices(v, j);
+    let n = write_past(t, last, b, a);
+    Strip {
+        base: s.base,
+        vertices: s.vertices + joint_count(j),
+        triangles: s.triangles + n,
+        begun: true,
+        first,
+        last: a,
+    }
+}
+
+// The same, behind what the state counts.
+pub fn put_joint(v: &mut [f32], t: &mut [u16], s: Strip, j: EndpointData) -> Strip
+    requires { ⌜ Has s (j ∷ []) (now v) (now t) ⌝ }
+    ensures { λ r. ⌜ Puts (j ∷ []) s (now (v .entry)) (now (v .exit)) (now (t .entry)) (now (t .exit)) r ⌝ }
+{
+    let at = 5 * s.vertices;
+    let to = 3 * s.triangles;
+    write_joint(&mut v[at..], &mut t[to..], s, j)
+}
+
+// A closed run goes round to its first section. The result is the number of triangles.
+pub fn write_close(t: &mut [u16], s: Strip) -> usize
+    requires { ⌜ 3 * length (between (s .last) (s .first)) ≤ length (now t) ⌝ }
+    requires { ⌜ Sound s ⌝ }
+    ensures { λ r. ⌜ r ≡ length (between (s .last) (s .first)) ⌝ }
+    ensures { λ _. ⌜ now (t .exit) ≡ over (flatT (between (s .last) (s .first))) (now (t .entry)) ⌝ }
+{
+    write_between(t, s.last, s.first)
+}

@@ -1,0 +1,63 @@
+// Rule 9: the triangles from one section to the next.
+use crate::section::Section;
+use endpoint::VertexId;
+use vertices::list::put_triangle;
+ghost use mathlib.Core.Path.{_≡_};
+ghost use Prim.Native.Nat.{_*_, _≤_, _<_};
+ghost use lib.ListN.{length};
+ghost use Rattle.lists.specs.Over.{over};
+ghost use Rattle.strip.specs.Section.{Narrow};
+ghost use Rattle.strip.specs.Triangle.{different, triOf, flatT, between, past};
+
+// Whether no two of the numbers are equal.
+fn different(a: u32, b: u32, c: u32) -> bool
+    ensures { λ r. ⌜ r ≡ different a b c ⌝ }
+{
+    if a == b {
+        return false;
+    }
+    if b == c {
+        return false;
+    }
+    a != c
+}
+
+// A triangle, left out if two of its numbers are equal. The result is the number of triangles.
+fn write_triangle(t: &mut [u16], a: VertexId, b: VertexId, c: VertexId) -> usize
+    requires { ⌜ 3 * length (triOf (a .0) (b .0) (c .0)) ≤ length (now t) ⌝ }
+    requires { ⌜ (a .0 < 65536) × (b .0 < 65536) × (c .0 < 65536) ⌝ }
+    ensures { λ r. ⌜ r ≡ length (triOf (a .0) (b .0) (c .0)) ⌝ }
+    ensures { λ _. ⌜ now (t .exit) ≡ over (flatT (triOf (a .0) (b .0) (c .0))) (now (t .entry)) ⌝ }
+{
+    if different(a.0, b.0, c.0) {
+        put_triangle(t, a, b, c);
+        return 1;
+    }
+    0
+}
+
+// (N, P, P') and (N, P', N'). The result is the number of triangles.
+pub fn write_between(t: &mut [u16], s: Section, e: Section) -> usize
+    requires { ⌜ 3 * length (between s e) ≤ length (now t) ⌝ }
+    requires { ⌜ Narrow s × Narrow e ⌝ }
+    ensures { λ r. ⌜ r ≡ length (between s e) ⌝ }
+    ensures { λ _. ⌜ now (t .exit) ≡ over (flatT (between s e)) (now (t .entry)) ⌝ }
+{
+    let k = write_triangle(t, s.negative, s.positive, e.positive);
+    let at = 3 * k;
+    let m = write_triangle(&mut t[at..], s.negative, e.positive, e.negative);
+    k + m
+}
+
+// To the section before a joint, and on to the one after it. The result is the number of triangles.
+pub fn write_past(t: &mut [u16], last: Section, b: Section, a: Section) -> usize
+    requires { ⌜ 3 * length (past last b a) ≤ length (now t) ⌝ }
+    requires { ⌜ Narrow last × Narrow b × Narrow a ⌝ }
+    ensures { λ r. ⌜ r ≡ length (past last b a) ⌝ }
+    ensures { λ _. ⌜ now (t .exit) ≡ over (flatT (past last b a)) (now (t .entry)) ⌝ }
+{
+    let k = write_between(t, last, b);
+    let at = 3 * k;
+    let m = write_between(&mut t[at..], b, a);
+    k + m
+}
