@@ -1,0 +1,98 @@
+// Rules 5 and 7: the joints of a run. A cap is a joint with two Single sides.
+use crate::leg::Leg;
+use endpoint::Endpoint;
+use endpoint::EndpointData;
+use endpoint::InnerJoin;
+use endpoint::SidePoints;
+use endpoint::single;
+use join::record::join_of;
+use path::options::Stroke;
+use plane::vector::Point;
+use plane::vector::negated;
+use plane::vector::plus;
+use plane::vector::times;
+ghost use mathlib.Core.Path.{_≡_};
+ghost use Rattle.course.specs.Joint.{dataOf, capOf, startCapOf, endCapOf, jointOf};
+
+// An endpoint with its advancement and its sides.
+fn data_of(
+    o: Stroke,
+    p: Endpoint,
+    a: f32,
+    positive: SidePoints,
+    negative: SidePoints,
+) -> EndpointData
+    ensures { λ r. ⌜ r ≡ dataOf o p a positive negative ⌝ }
+{
+    let position = p.position;
+    let id = p.id;
+    let line_join = o.line_join;
+    EndpointData {
+        position: position,
+        half_width: o.half_width,
+        advancement: a,
+        line_join: line_join,
+        id: id,
+        positive: positive,
+        negative: negative,
+        fold_positive: false,
+        fold_negative: false,
+        inner_join: InnerJoin::Neither,
+    }
+}
+
+// The join where one leg ends and the next begins.
+pub fn joint_of(o: Stroke, leg: Leg, next: Leg) -> EndpointData
+    ensures { λ r. ⌜ r ≡ jointOf o leg next ⌝ }
+{
+    let p = leg.to;
+    let unworked = single(p.position);
+    let e = data_of(o, p, leg.end, unworked, unworked);
+    join_of(leg.edge, e, next.edge, leg.start, next.end, o.miter_limit)
+}
+
+// The two side points at p, each moved outward by the clip.
+fn cap(
+    o: Stroke,
+    p: Endpoint,
+    a: f32,
+    positive: Point,
+    negative: Point,
+    outward: Point,
+) -> EndpointData
+    ensures { λ r. ⌜ r ≡ capOf o p a positive negative outward ⌝ }
+{
+    let out = times(outward, o.clip);
+    data_of(
+        o,
+        p,
+        a,
+        single(plus(positive, out)),
+        single(plus(negative, out)),
+    )
+}
+
+pub fn start_cap(o: Stroke, leg: Leg) -> EndpointData
+    ensures { λ r. ⌜ r ≡ startCapOf o leg ⌝ }
+{
+    let edge = leg.edge;
+    let positive = edge.positive;
+    let negative = edge.negative;
+    cap(
+        o,
+        leg.from,
+        leg.start,
+        positive.from,
+        negative.from,
+        negated(edge.t),
+    )
+}
+
+pub fn end_cap(o: Stroke, leg: Leg) -> EndpointData
+    ensures { λ r. ⌜ r ≡ endCapOf o leg ⌝ }
+{
+    let edge = leg.edge;
+    let positive = edge.positive;
+    let negative = edge.negative;
+    cap(o, leg.to, leg.end, positive.to, negative.to, edge.t)
+}

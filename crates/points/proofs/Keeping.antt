@@ -1,0 +1,73 @@
+-- Keeping and trimming, one point more at the end. Assumes nothing.
+use Prim.Native.Nat.{ℕ, zero, suc, _+_, _-_, _*_, _/_, _<_, _≤_}
+use mathlib.Core.Path.{_≡_, refl, sym, ap, _∙_}
+use mathlib.Core.Bool.{Bool, true, false, cond, and-false}
+use mathlib.Core.List.{List, [], _∷_, _++_}
+use native.Mathlib.Omega.{arith}
+use lib.ListN.{length, take, drop, getD, length-drop, drop-of-length-le}
+use lib.Seq.{take-suc, getD-drop, take-all}
+use lib.Ieee.{Float, nan}
+use Rattle.endpoint.specs.declared.Endpoint.{Endpoint}
+use Rattle.course.specs.Kept.{near, keptBehind, allNear, trimmed, keptPoints}
+use Rattle.points.specs.declared.Look.{Look}
+use Rattle.points.specs.Points.{endpoint, endpointsOf, endpointAt}
+use Rattle.points.specs.Kept.{FirstFar, lookedOf, Ended, runFrom}
+
+pub keep-near : (l p : Endpoint) (ps : List Endpoint) → near l p ≡ true → keptBehind l (p ∷ ps) ≡ keptBehind l ps
+unfolding keptBehind
+keep-near l p ps h = rw h
+
+pub keep-far : (l p : Endpoint) (ps : List Endpoint) → near l p ≡ false → keptBehind l (p ∷ ps) ≡ p ∷ keptBehind p ps
+unfolding keptBehind
+keep-far l p ps h = rw h
+
+-- the last kept point
+unfoldable pub lastKept : Endpoint → List Endpoint → Endpoint
+lastKept l [] = l
+lastKept l (p ∷ ps) = cond (near l p) (lastKept l ps) (lastKept p ps)
+
+pub last-near : (l : Endpoint) (xs : List Endpoint) (c : Endpoint) → near (lastKept l xs) c ≡ true → (lastKept l (xs ++ c ∷ []) ≡ lastKept l xs) × (keptBehind l (xs ++ c ∷ []) ≡ keptBehind l xs)
+unfolding lastKept keptBehind
+last-near l [] c h = (rw h, rw h)
+last-near l (x ∷ xs) c h = go (near l x) h (last-near l xs c) (last-near x xs c)
+  where
+    go : (t : Bool) → near (cond t (lastKept l xs) (lastKept x xs)) c ≡ true
+        → (near (lastKept l xs) c ≡ true → (lastKept l (xs ++ c ∷ []) ≡ lastKept l xs) × (keptBehind l (xs ++ c ∷ []) ≡ keptBehind l xs))
+        → (near (lastKept x xs) c ≡ true → (lastKept x (xs ++ c ∷ []) ≡ lastKept x xs) × (keptBehind x (xs ++ c ∷ []) ≡ keptBehind x xs))
+        → (cond t (lastKept l (xs ++ c ∷ [])) (lastKept x (xs ++ c ∷ [])) ≡ cond t (lastKept l xs) (lastKept x xs))
+        × (cond t (keptBehind l (xs ++ c ∷ [])) (x ∷ keptBehind x (xs ++ c ∷ [])) ≡ cond t (keptBehind l xs) (x ∷ keptBehind x xs))
+    go true e f g = f e
+    go false e f g = (g e .0, ap (λ (z : List Endpoint). x ∷ z) (g e .1))
+
+pub last-far : (l : Endpoint) (xs : List Endpoint) (c : Endpoint) → near (lastKept l xs) c ≡ false → (lastKept l (xs ++ c ∷ []) ≡ c) × (keptBehind l (xs ++ c ∷ []) ≡ keptBehind l xs ++ c ∷ [])
+unfolding lastKept keptBehind
+last-far l [] c h = (rw h, rw h)
+last-far l (x ∷ xs) c h = go (near l x) h (last-far l xs c) (last-far x xs c)
+  where
+    go : (t : Bool) → near (cond t (lastKept l xs) (lastKept x xs)) c ≡ false
+        → (near (lastKept l xs) c ≡ false → (lastKept l (xs ++ c ∷ []) ≡ c) × (keptBehind l (xs ++ c ∷ []) ≡ keptBehind l xs ++ c ∷ []))
+        → (near (lastKept x xs) c ≡ false → (lastKept x (xs ++ c ∷ []) ≡ c) × (keptBehind x (xs ++ c ∷ []) ≡ keptBehind x xs ++ c ∷ []))
+        → (cond t (lastKept l (xs ++ c ∷ [])) (lastKept x (xs ++ c ∷ [])) ≡ c)
+        × (cond t (keptBehind l (xs ++ c ∷ [])) (x ∷ keptBehind x (xs ++ c ∷ [])) ≡ cond t (keptBehind l xs) (x ∷ keptBehind x xs) ++ c ∷ [])
+    go true e f g = f e
+    go false e f g = (g e .0, ap (λ (z : List Endpoint). x ∷ z) (g e .1))
+
+all-near : (o : Endpoint) (xs : List Endpoint) (c : Endpoint) → near o c ≡ true → allNear o (xs ++ c ∷ []) ≡ allNear o xs
+unfolding allNear
+all-near o [] c h = rw h
+all-near o (x ∷ xs) c h = rw (all-near o xs c h)
+
+all-far : (o : Endpoint) (xs : List Endpoint) (c : Endpoint) → near o c ≡ false → allNear o (xs ++ c ∷ []) ≡ false
+unfolding allNear
+all-far o [] c h = rw h
+all-far o (x ∷ xs) c h = rw (all-far o xs c h) (and-false (near o x))
+
+pub trim-near : (o : Endpoint) (xs : List Endpoint) (c : Endpoint) → near o c ≡ true → trimmed o (xs ++ c ∷ []) ≡ trimmed o xs
+unfolding trimmed allNear
+trim-near o [] c h = rw h
+trim-near o (x ∷ xs) c h = rw (trim-near o xs c h, all-near o xs c h)
+
+pub trim-far : (o : Endpoint) (xs : List Endpoint) (c : Endpoint) → near o c ≡ false → trimmed o (xs ++ c ∷ []) ≡ xs ++ c ∷ []
+unfolding trimmed allNear
+trim-far o [] c h = rw h
+trim-far o (x ∷ xs) c h = rw (trim-far o xs c h, all-far o xs c h, and-false (near o x))

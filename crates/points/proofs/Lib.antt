@@ -1,0 +1,4 @@
+-- For the layers above: `Indexed` and `Laws`.
+pub mod Indexed
+pub mod Keeping
+pub mod Laws

@@ -1,0 +1,2 @@
+-- What the writers of a run's strip need and do.
+pub mod Strips

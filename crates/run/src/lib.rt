@@ -1,0 +1,2 @@
+// A run of a path, drawn at the start of the parts that are lent.
+pub mod strips;

@@ -1,0 +1,3 @@
+-- For the layers above: `Laws`, what a count counts.
+pub mod Laws
+pub mod Small

@@ -1,0 +1,34 @@
+-- One turn of `visit_all`: what was to come is what the next point brings and what is to come behind it. Assumes nothing.
+use Prim.Native.Nat.{ℕ, _+_, _*_, _≤_}
+use mathlib.Core.Path.{_≡_}
+use mathlib.Core.List.{List, _++_}
+use lib.Ieee.{Float}
+use lib.ListN.{length, drop}
+use Rattle.endpoint.specs.declared.EndpointData.{EndpointData}
+use Rattle.path.specs.declared.options.Stroke.{Stroke}
+use Rattle.course.specs.Walk.{visitOf, visited, passed}
+use Rattle.course.proofs.Walking.{passed-next}
+use Rattle.points.specs.Points.{endpointsOf, endpointAt}
+use Rattle.points.proofs.Indexed.{points-at}
+use Rattle.strip.specs.Strip.{Has}
+use Rattle.strip.specs.declared.Strip.{Strip}
+use Rattle.strip.proofs.Pending.{Pending, has-next, pending-put}
+use Rattle.walk.specs.Walk.{Visits}
+use Rattle.walk.specs.declared.Walk.{Walk}
+
+module _ (s₀ : Strip) (js₀ : List EndpointData) (v₀ : List Float) (t₀ : List ℕ) (has : Has s₀ js₀ v₀ t₀) (o : Stroke) (p : List Float) (k i : ℕ) (h : 2 * i + 2 ≤ length p) (w : Walk) (v : List Float) (t : List ℕ)
+    (m : Pending s₀ js₀ v₀ t₀ (passed o (w .leg) (drop i (endpointsOf k p))) (w .strip) v t) where
+  split : passed o (w .leg) (drop i (endpointsOf k p)) ≡ visited o (w .leg) (endpointAt p k i) ++ passed o (visitOf (o .«half_width») (w .leg) (endpointAt p k i)) (drop (i + 1) (endpointsOf k p))
+  split = rw (points-at p k i h) (passed-next o (w .leg) (endpointAt p k i) (drop (i + 1) (endpointsOf k p)))
+
+  here : Pending s₀ js₀ v₀ t₀ (visited o (w .leg) (endpointAt p k i) ++ passed o (visitOf (o .«half_width») (w .leg) (endpointAt p k i)) (drop (i + 1) (endpointsOf k p))) (w .strip) v t
+  here = rw split at m
+
+  pub visit-has : Has (w .strip) (visited o (w .leg) (endpointAt p k i)) v t
+  visit-has = has-next s₀ js₀ v₀ t₀ has (visited o (w .leg) (endpointAt p k i)) (passed o (visitOf (o .«half_width») (w .leg) (endpointAt p k i)) (drop (i + 1) (endpointsOf k p))) (w .strip) v t here
+
+  pub visit-turn : (r : Walk) (v' : List Float) (t' : List ℕ) → Visits o w (endpointAt p k i) v v' t t' r
+      → Pending s₀ js₀ v₀ t₀ (passed o (r .leg) (drop (i + 1) (endpointsOf k p))) (r .strip) v' t'
+  visit-turn r v' t' e =
+      rw (e .leg)
+      (pending-put s₀ js₀ v₀ t₀ has (visited o (w .leg) (endpointAt p k i)) (passed o (visitOf (o .«half_width») (w .leg) (endpointAt p k i)) (drop (i + 1) (endpointsOf k p))) (w .strip) v t here (r .strip) v' t' (e .puts))
