@@ -4,6 +4,7 @@ use mathlib.Core.Bool.{false}
 use lib.Ieee.{Float, neg}
 use Rattle.plane.specs.F32.{f32}
 use Rattle.plane.specs.Vector.{point}
+use Rattle.plane.specs.declared.vector.Point.{Point}
 use Rattle.endpoint.specs.declared.EndpointData.{EndpointData}
 use Rattle.endpoint.specs.declared.InnerJoin.the-variants.{Neither}
 use Rattle.endpoint.specs.declared.LineJoin.the-variants.{Miter}
@@ -32,7 +33,13 @@ abbrev pub signOf : Side → Float
 signOf Positive = f32 0x3f800000
 signOf Negative = neg (f32 0x3f800000)
 
--- "Each side is Single with its point or Pair with two points"
+unfoldable pub singleOf : Point → SidePoints
+singleOf p = Single (p .x) (p .y)
+
+unfoldable pub pairOf : Point → Point → SidePoints
+pairOf p q = Pair (p .x) (p .y) (q .x) (q .y)
+
+-- "Each side is Single with its point or Pair with two points": how many vertices it has
 abbrev pub sideCountOf : SidePoints → ℕ
 sideCountOf (Single x y) = 1
 sideCountOf (Pair x0 y0 x1 y1) = 2

@@ -1,12 +1,18 @@
 // Endpoints as the joins see them: lyon's `EndpointData`, with what is optional there in cases.
 use plane::vector::Point;
 ghost use mathlib.Core.Path.{_≡_};
-ghost use Rattle.endpoint.specs.Endpoint.{blankOf, sideCountOf, signOf};
+ghost use Rattle.endpoint.specs.Endpoint.{blankOf, signOf, singleOf, pairOf, sideCountOf};
 
 // Endpoints and vertices are counted apart.
 pub struct EndpointId(pub u32);
 
 pub struct VertexId(pub u32);
+
+// A begin's or a line's point with its number.
+pub struct Endpoint {
+    pub position: Point,
+    pub id: EndpointId,
+}
 
 pub enum LineJoin {
     Miter,
@@ -72,6 +78,18 @@ pub fn side_sign(side: Side) -> f32
         Side::Positive => 1.0,
         Side::Negative => -1.0,
     }
+}
+
+pub fn single(p: Point) -> SidePoints
+    ensures { λ r. ⌜ r ≡ singleOf p ⌝ }
+{
+    SidePoints::Single(p.x, p.y)
+}
+
+pub fn pair(p: Point, q: Point) -> SidePoints
+    ensures { λ r. ⌜ r ≡ pairOf p q ⌝ }
+{
+    SidePoints::Pair(p.x, p.y, q.x, q.y)
 }
 
 // How many vertices a side has.

@@ -6,21 +6,15 @@ use Rattle.plane.specs.F32.{_⊗_}
 use Rattle.plane.specs.Normal.{pick}
 use Rattle.plane.specs.Vector.{plusOf, minusOf, timesOf, squareLengthOf}
 use Rattle.plane.specs.declared.vector.Point.{Point}
+use Rattle.endpoint.specs.Endpoint.{singleOf, pairOf}
 use Rattle.endpoint.specs.declared.EndpointData.{EndpointData}
 use Rattle.endpoint.specs.declared.LineJoin.{LineJoin}
 use Rattle.endpoint.specs.declared.LineJoin.the-variants.{Miter, MiterClip, Bevel}
 use Rattle.endpoint.specs.declared.SidePoints.{SidePoints}
-use Rattle.endpoint.specs.declared.SidePoints.the-variants.{Single, Pair}
 use Rattle.join.specs.Clip.{clippedOf}
 use Rattle.join.specs.Corner.{overshootsOf, foldsOf}
 use Rattle.join.specs.declared.corner.Corner.{Corner}
 use Rattle.join.specs.declared.side.Joined.{Joined}
-
-unfoldable pub singleOf : Point → SidePoints
-singleOf p = Single (p .x) (p .y)
-
-unfoldable pub pairOf : Point → Point → SidePoints
-pairOf p q = Pair (p .x) (p .y) (q .x) (q .y)
 
 -- Miter and MiterClip have a tip within the limit; MiterClip is cut off beyond it
 abbrev pub isMiter : LineJoin → Bool

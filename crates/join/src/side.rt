@@ -9,31 +9,21 @@ use crate::logic::no;
 use endpoint::EndpointData;
 use endpoint::LineJoin;
 use endpoint::SidePoints;
+use endpoint::pair;
+use endpoint::single;
 use plane::vector::Point;
 use plane::vector::minus;
 use plane::vector::plus;
 use plane::vector::square_length;
 use plane::vector::times;
 ghost use mathlib.Core.Path.{_≡_};
-ghost use Rattle.join.specs.Join.{isMiter, isClip, exceededOf, singleOf, pairOf, clippedPairOf, concaveOf, hasPointOf, decideOf, joinSideOf};
+ghost use Rattle.join.specs.Join.{isMiter, isClip, exceededOf, clippedPairOf, concaveOf, hasPointOf, decideOf, joinSideOf};
 
 // One side once it is worked.
 pub struct Joined {
     pub points: SidePoints,
     pub fold: bool,
     pub inner: bool,
-}
-
-fn single(p: Point) -> SidePoints
-    ensures { λ r. ⌜ r ≡ singleOf p ⌝ }
-{
-    SidePoints::Single(p.x, p.y)
-}
-
-fn pair(p: Point, q: Point) -> SidePoints
-    ensures { λ r. ⌜ r ≡ pairOf p q ⌝ }
-{
-    SidePoints::Pair(p.x, p.y, q.x, q.y)
 }
 
 fn is_miter(j: LineJoin) -> bool

@@ -1,0 +1,12 @@
+-- `endpoint::single` meets its contract. Assumes nothing.
+use mathlib.Core.Path.{refl}
+use Rattle.endpoint.specs.Endpoint.{singleOf}
+use Rattle.endpoint.proofs.single.Statement.{statement}
+use Rattle.endpoint.proofs.single.Tie as tie
+
+returns : tie.Need-returns
+unfolding singleOf
+returns c = refl
+
+pub single-spec : {M : Type 1} → statement M
+single-spec = tie.close (tie.spec returns)
