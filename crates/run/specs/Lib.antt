@@ -1,2 +1,3 @@
--- What the writers of a run's strip need and do.
+-- `Run` is what a run draws; `Strips` what the writers of its strip need and do.
+pub mod Run
 pub mod Strips

@@ -1,2 +1,3 @@
 // A run of a path, drawn at the start of the parts that are lent.
-pub mod strips;
+pub mod draw;
+mod strips;

@@ -1,8 +1,6 @@
--- Where this stands: the definition of what a run draws (rule 2 and the strip), for crates/run/specs/Run.antt. The strip writers that it needs are
--- proved (crates/run/src/strips.rt, crates/tally for the count). Next: draw_run and count_run over first_far and kept_end of crates/points
--- (laws kept-far, kept-alone, kept-ended join them to keptPoints), write_close for closed runs, then the passes over the verbs and the mesh call.
 -- What a run draws. Assumes nothing.
-use Prim.Native.Nat.{ℕ}
+use Prim.Native.Nat.{ℕ, _+_, _*_, _≤_, _<_}
+use mathlib.Core.Path.{_≡_}
 use mathlib.Core.Bool.{Bool, _&&_, _||_, cond}
 use mathlib.Core.List.{List, [], _∷_}
 use lib.Dec.{ltb}
@@ -15,7 +13,9 @@ use Rattle.path.specs.declared.options.Stroke.{Stroke}
 use Rattle.vertices.specs.Cap.{capVerticesOf}
 use Rattle.course.specs.Kept.{keptPoints}
 use Rattle.course.specs.Joint.{jointsOf}
+use Rattle.lists.specs.Over.{over}
 use Rattle.strip.specs.Joint.{vertexCount, verticesOf}
+use Rattle.strip.specs.Triangle.{Tri, flatT, trianglesOf}
 
 -- nothing, the empty cap at a point, or a strip along joints
 pub data Shape : Type 0 where
@@ -24,9 +24,12 @@ pub data Shape : Type 0 where
   along : List EndpointData → Shape
 
 -- Rule 2: "n = 1: with Square, and a closed end or at least one line verb, the empty cap; otherwise nothing."
+unfoldable pub drawsCap : Stroke → Bool → Bool → Bool
+drawsCap o closed lines = o .square && (closed || lines)
+
 abbrev pub shapeOfKept : Stroke → Bool → Bool → List Endpoint → Shape
 shapeOfKept o closed lines [] = nothing
-shapeOfKept o closed lines (p ∷ []) = cond (o .square && (closed || lines)) (emptyCap p) nothing
+shapeOfKept o closed lines (p ∷ []) = cond (drawsCap o closed lines) (emptyCap p) nothing
 shapeOfKept o closed lines (p ∷ q ∷ ks) = along (jointsOf closed o (p ∷ q ∷ ks))
 
 -- a run's points are those of its begin and of its lines
@@ -44,3 +47,23 @@ unfoldable pub shapeVertices : Stroke → Shape → List Float
 shapeVertices o nothing = []
 shapeVertices o (emptyCap p) = capVerticesOf (p .position) (o .«half_width») (f32 0)
 shapeVertices o (along js) = verticesOf js
+
+-- its triangles, where its vertices are numbered from k
+unfoldable pub shapeTriangles : Bool → ℕ → Shape → List Tri
+shapeTriangles closed k nothing = []
+shapeTriangles closed k (emptyCap p) = record { a = k; b = k + 1; c = k + 2 } ∷ record { a = k; b = k + 2; c = k + 3 } ∷ []
+shapeTriangles closed k (along js) = trianglesOf closed k js
+
+-- v and t have room for a shape whose vertices are numbered from k
+pub record Place (closed : Bool) (k : ℕ) (s : Shape) (v : List Float) (t : List ℕ) : Type 0 where
+  pub numbers : k + shapeCount s < 65536
+  pub vertices : 5 * shapeCount s ≤ length v
+  pub triangles : 3 * length (shapeTriangles closed k s) ≤ length t
+  pub faces : length (shapeTriangles closed k s) < 65536
+
+-- it is drawn at the start of v and t, with n vertices and m triangles
+pub record Draws (o : Stroke) (closed : Bool) (k : ℕ) (s : Shape) (v v' : List Float) (t t' : List ℕ) (n m : ℕ) : Type 0 where
+  pub vertices : v' ≡ over (shapeVertices o s) v
+  pub triangles : t' ≡ over (flatT (shapeTriangles closed k s)) t
+  pub count : n ≡ shapeCount s
+  pub faces : m ≡ length (shapeTriangles closed k s)

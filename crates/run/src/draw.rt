@@ -1,0 +1,163 @@
+// A run drawn: a strip along its joints, an empty cap, or nothing.
+use crate::strips::write_open;
+use crate::strips::write_round;
+use endpoint::Endpoint;
+use endpoint::VertexId;
+use path::options::Stroke;
+use points::endpoint_at;
+use points::first_far;
+use points::kept_end;
+use strip::write_close;
+use vertices::cap::tessellate_empty_square_cap;
+ghost use mathlib.Core.Bool.{true, false};
+ghost use mathlib.Core.Path.{_≡_};
+ghost use mathlib.Core.List.{[], _∷_};
+ghost use Prim.Native.Nat.{_*_, _≤_};
+ghost use lib.ListN.{length};
+ghost use Rattle.course.specs.Joint.{jointsOf};
+ghost use Rattle.course.specs.Kept.{keptPoints};
+ghost use Rattle.points.specs.Kept.{runFrom};
+ghost use Rattle.points.specs.Points.{endpointsOf};
+ghost use Rattle.run.specs.Run.{along, drawsCap, shapeOfKept, shapeOf, Place, Draws};
+ghost use Rattle.run.specs.Strips.{Within};
+
+// How much was drawn.
+pub struct Drawn {
+    pub vertices: usize,
+    pub triangles: usize,
+}
+
+fn draw_open(
+    v: &mut [f32],
+    t: &mut [u16],
+    o: Stroke,
+    p: &[f32],
+    k: u32,
+    i: usize,
+    base: usize,
+) -> Drawn
+    requires { ⌜ Within (now p) k i ⌝ }
+    requires { ⌜ Place false base (along (jointsOf false o (runFrom (now p) k i))) (now v) (now t) ⌝ }
+    ensures { λ r. ⌜ Draws o false base (along (jointsOf false o (runFrom (now (p .entry)) k i))) (now (v .entry)) (now (v .exit)) (now (t .entry)) (now (t .exit)) (r .vertices) (r .triangles) ⌝ }
+{
+    let s = write_open(v, t, o, p, k, i, base);
+    Drawn {
+        vertices: s.vertices,
+        triangles: s.triangles,
+    }
+}
+
+// A closed run goes round to its first section.
+fn draw_closed(
+    v: &mut [f32],
+    t: &mut [u16],
+    o: Stroke,
+    p: &[f32],
+    k: u32,
+    i: usize,
+    base: usize,
+) -> Drawn
+    requires { ⌜ Within (now p) k i ⌝ }
+    requires { ⌜ Place true base (along (jointsOf true o (runFrom (now p) k i))) (now v) (now t) ⌝ }
+    ensures { λ r. ⌜ Draws o true base (along (jointsOf true o (runFrom (now (p .entry)) k i))) (now (v .entry)) (now (v .exit)) (now (t .entry)) (now (t .exit)) (r .vertices) (r .triangles) ⌝ }
+{
+    let s = write_round(v, t, o, p, k, i, base);
+    let n = s.vertices;
+    let m = s.triangles;
+    let at = 3 * m;
+    let c = write_close(&mut t[at..], s);
+    Drawn {
+        vertices: n,
+        triangles: m + c,
+    }
+}
+
+// Rule 2: whether a run of one kept point draws the empty cap.
+fn draws_cap(o: Stroke, closed: bool, lines: bool) -> bool
+    ensures { λ r. ⌜ r ≡ drawsCap o closed lines ⌝ }
+{
+    if closed {
+        return o.square;
+    }
+    o.square && lines
+}
+
+// A run of one kept point.
+fn draw_alone(
+    v: &mut [f32],
+    t: &mut [u16],
+    o: Stroke,
+    p: Endpoint,
+    closed: bool,
+    lines: bool,
+    base: usize,
+) -> Drawn
+    requires { ⌜ Place closed base (shapeOfKept o closed lines (p ∷ [])) (now v) (now t) ⌝ }
+    ensures { λ r. ⌜ Draws o closed base (shapeOfKept o closed lines (p ∷ [])) (now (v .entry)) (now (v .exit)) (now (t .entry)) (now (t .exit)) (r .vertices) (r .triangles) ⌝ }
+{
+    if draws_cap(o, closed, lines) {
+        tessellate_empty_square_cap(v, t, VertexId(base as u32), p.position, o.half_width, 0.0);
+        return Drawn {
+            vertices: 4,
+            triangles: 2,
+        };
+    }
+    Drawn {
+        vertices: 0,
+        triangles: 0,
+    }
+}
+
+// The points of p, none of which is dropped on closing.
+fn draw_kept(
+    v: &mut [f32],
+    t: &mut [u16],
+    o: Stroke,
+    p: &[f32],
+    k: u32,
+    closed: bool,
+    lines: bool,
+    base: usize,
+) -> Drawn
+    requires { ⌜ (2 ≤ length (now p)) × (length (now p) ≤ 8192) × (k ≤ 4096) ⌝ }
+    requires { ⌜ Place closed base (shapeOfKept o closed lines (keptPoints false (endpointsOf k (now p)))) (now v) (now t) ⌝ }
+    ensures { λ r. ⌜ Draws o closed base (shapeOfKept o closed lines (keptPoints false (endpointsOf k (now (p .entry))))) (now (v .entry)) (now (v .exit)) (now (t .entry)) (now (t .exit)) (r .vertices) (r .triangles) ⌝ }
+{
+    let i = first_far(p, k);
+    if p.len() / 2 <= i {
+        return draw_alone(v, t, o, endpoint_at(p, k, 0), closed, lines, base);
+    }
+    if closed {
+        return draw_closed(v, t, o, p, k, i, base);
+    }
+    draw_open(v, t, o, p, k, i, base)
+}
+
+// A run whose coordinates are p and whose first endpoint has the number k; its vertices are numbered
+// from base.
+pub fn draw_run(
+    v: &mut [f32],
+    t: &mut [u16],
+    o: Stroke,
+    p: &[f32],
+    k: u32,
+    closed: bool,
+    base: usize,
+) -> Drawn
+    requires { ⌜ (length (now p) ≤ 8192) × (k ≤ 4096) ⌝ }
+    requires { ⌜ Place closed base (shapeOf o closed (endpointsOf k (now p))) (now v) (now t) ⌝ }
+    ensures { λ r. ⌜ Draws o closed base (shapeOf o closed (endpointsOf k (now (p .entry)))) (now (v .entry)) (now (v .exit)) (now (t .entry)) (now (t .exit)) (r .vertices) (r .triangles) ⌝ }
+{
+    if p.len() < 2 {
+        return Drawn {
+            vertices: 0,
+            triangles: 0,
+        };
+    }
+    let lines = 1 < p.len() / 2;
+    if closed {
+        let to = 2 * kept_end(p, k);
+        return draw_kept(v, t, o, &p[..to], k, true, lines, base);
+    }
+    draw_kept(v, t, o, p, k, false, lines, base)
+}
