@@ -1,24 +1,54 @@
 // A line and its answer: by the kind of case that the line's first word names.
-use crate::output::Buffer;
-use crate::output::Printed;
-use crate::output::text;
-use crate::root_case;
+use answers::cap_case;
+use answers::join_case;
+use answers::normal_case;
+use answers::root_case;
 use lines::words::Place;
 use lines::words::next_word;
+use printing::answers::bad_line;
+use printing::buffer::Buffer;
+use printing::buffer::Printed;
 
 // Answers a line.
 pub fn answer(line: &[u8], out: &mut Buffer, p: Printed) -> Printed {
-    let kind = next_word(line, Place::At(0));
-    let start = kind.start;
-    let end = kind.end;
-    let rest = kind.rest;
-    if check::same(&line[start..end], b"root") {
-        return root_case::answer(line, rest, out, p);
+    let word = next_word(line, Place::At(0));
+    let start = word.start;
+    let end = word.end;
+    let rest = word.rest;
+    match kind_of(&line[start..end]) {
+        Kind::Root => root_case::answer(line, rest, out, p),
+        Kind::Normal => normal_case::answer(line, rest, out, p),
+        Kind::Window => window_case::answer(line, rest, out, p),
+        Kind::Join => join_case::answer(line, rest, out, p),
+        Kind::Cap => cap_case::answer(line, rest, out, p),
+        Kind::None => bad_line(out, p),
     }
-    bad_line(out, p)
 }
 
-// Answers a line that is no case.
-pub fn bad_line(out: &mut Buffer, p: Printed) -> Printed {
-    text(out, p, b"bad line\n")
+enum Kind {
+    Root,
+    Normal,
+    Window,
+    Join,
+    Cap,
+    None,
+}
+
+fn kind_of(word: &[u8]) -> Kind {
+    if check::same(word, b"root") {
+        return Kind::Root;
+    }
+    if check::same(word, b"normal") {
+        return Kind::Normal;
+    }
+    if check::same(word, b"window") {
+        return Kind::Window;
+    }
+    if check::same(word, b"join") {
+        return Kind::Join;
+    }
+    if check::same(word, b"cap") {
+        return Kind::Cap;
+    }
+    Kind::None
 }

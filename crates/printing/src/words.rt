@@ -1,0 +1,77 @@
+// Words, and what stands between them.
+use crate::buffer::Buffer;
+use crate::buffer::Printed;
+use crate::buffer::with_room;
+use lines::prints::put_decimal;
+use lines::prints::put_float;
+ghost use Prim.Native.Nat.{_+_, _≤_};
+ghost use lib.ListN.{length};
+
+// Prints a short text.
+pub fn text(out: &mut Buffer, p: Printed, bytes: &[u8]) -> Printed
+    requires { ⌜ length (now bytes) ≤ 32 ⌝ }
+{
+    let q = with_room(out, p);
+    Printed {
+        waiting: text_at(out, q.waiting, bytes),
+        open: q.open,
+    }
+}
+
+// Prints a number in decimal.
+pub fn decimal(out: &mut Buffer, p: Printed, n: u64) -> Printed {
+    let q = with_room(out, p);
+    Printed {
+        waiting: decimal_at(out, q.waiting, n),
+        open: q.open,
+    }
+}
+
+// Prints the eight hex digits of a float's bits.
+pub fn hex(out: &mut Buffer, p: Printed, x: f32) -> Printed {
+    let q = with_room(out, p);
+    Printed {
+        waiting: hex_at(out, q.waiting, x),
+        open: q.open,
+    }
+}
+
+pub fn space(out: &mut Buffer, p: Printed) -> Printed {
+    text(out, p, b" ")
+}
+
+pub fn line_end(out: &mut Buffer, p: Printed) -> Printed {
+    text(out, p, b"\n")
+}
+
+// Prints a space and a number.
+pub fn number(out: &mut Buffer, p: Printed, n: u64) -> Printed {
+    let q = space(out, p);
+    decimal(out, q, n)
+}
+
+// Prints a space and a float.
+pub fn float(out: &mut Buffer, p: Printed, x: f32) -> Printed {
+    let q = space(out, p);
+    hex(out, q, x)
+}
+
+// These three put what their callers print at a place of the buffer, and answer the place behind it.
+fn text_at(out: &mut [u8], at: usize, bytes: &[u8]) -> usize
+    requires { ⌜ at + length (now bytes) ≤ length (now out) ⌝ }
+{
+    at + bytes::copy(bytes, &mut out[at..])
+}
+
+fn decimal_at(out: &mut [u8], at: usize, n: u64) -> usize
+    requires { ⌜ at + 20 ≤ length (now out) ⌝ }
+{
+    at + put_decimal(&mut out[at..], n)
+}
+
+fn hex_at(out: &mut [u8], at: usize, x: f32) -> usize
+    requires { ⌜ at + 8 ≤ length (now out) ⌝ }
+{
+    put_float(&mut out[at..], x);
+    at + 8
+}

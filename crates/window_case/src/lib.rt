@@ -1,0 +1,45 @@
+// The answer to `window OPS`, a list of calls of the window: `window ANSWERS`, a word to each call.
+mod op;
+mod run;
+
+use crate::op::read_op;
+use crate::run::answer_ops;
+use lines::numbers::read;
+use lines::words::Place;
+use lines::words::is_end;
+use printing::answers::bad_line;
+use printing::buffer::Buffer;
+use printing::buffer::Printed;
+use printing::words::line_end;
+use printing::words::number;
+use printing::words::text;
+
+// The line is looked through before a word of the answer is printed.
+pub fn answer(line: &[u8], place: Place, out: &mut Buffer, p: Printed) -> Printed {
+    let n = read(line, place);
+    let count = n.value;
+    let first = n.rest;
+    if !are_ops(line, first, count) {
+        return bad_line(out, p);
+    }
+    let named = text(out, p, b"window");
+    let counted = number(out, named, count);
+    let answered = answer_ops(line, first, count, out, counted);
+    line_end(out, answered)
+}
+
+// Whether the rest of the line is so many calls. It has no more words than bytes, so a larger count is
+// false at once.
+fn are_ops(line: &[u8], first: Place, count: u64) -> bool {
+    if (line.len() as u64) < count {
+        return false;
+    }
+    let mut at = first;
+    let mut i: u64 = 0;
+    while i < count {
+        let o = read_op(line, at);
+        at = o.rest;
+        i += 1;
+    }
+    is_end(at)
+}
