@@ -21,7 +21,7 @@ pub fn answer(line: &[u8], place: Place, out: &mut Buffer, p: Printed) -> Printe
     let after_h = h.rest;
     let limit = floats::read(line, after_h);
     let after_limit = limit.rest;
-    let join = numbers::read(line, after_limit);
+    let join = read_join(line, after_limit);
     let after_join = join.rest;
     let prev = read_end(line, after_join);
     let after_prev = prev.rest;
@@ -32,27 +32,37 @@ pub fn answer(line: &[u8], place: Place, out: &mut Buffer, p: Printed) -> Printe
     if !is_end(rest) {
         return bad_line(out, p);
     }
-    match line_join(join.value) {
-        Named::Join(j) => {
-            let e = endpoint_at(here.point, h.value, here.advancement, j);
-            joined(out, p, worked(prev, e, next, limit.value))
-        }
-        Named::None => bad_line(out, p),
+    let line_join = join.line_join;
+    let e = endpoint_at(here.point, h.value, here.advancement, line_join);
+    joined(out, p, worked(prev, e, next, limit.value))
+}
+
+// A line join that stood in a line by its number, and the place after it: Lost where it was none.
+struct JoinRead {
+    line_join: LineJoin,
+    rest: Place,
+}
+
+fn read_join(line: &[u8], place: Place) -> JoinRead {
+    let n = numbers::read(line, place);
+    let rest = n.rest;
+    if 2 < n.value {
+        return JoinRead {
+            line_join: LineJoin::Miter,
+            rest: Place::Lost,
+        };
+    }
+    JoinRead {
+        line_join: line_join_of(n.value),
+        rest,
     }
 }
 
-// The line join of a number.
-enum Named {
-    Join(LineJoin),
-    None,
-}
-
-fn line_join(n: u64) -> Named {
-    match n {
-        0 => Named::Join(LineJoin::Miter),
-        1 => Named::Join(LineJoin::MiterClip),
-        2 => Named::Join(LineJoin::Bevel),
-        _ => Named::None,
+fn line_join_of(number: u64) -> LineJoin {
+    match number {
+        0 => LineJoin::Miter,
+        1 => LineJoin::MiterClip,
+        _ => LineJoin::Bevel,
     }
 }
 

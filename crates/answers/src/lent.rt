@@ -1,4 +1,4 @@
-// Lists that a case lends to a call: filled before it, so that a place which it leaves alone shows.
+// Lists that a case lends to a call: filled before it, so that a place which it leaves alone shows. None is longer than 81,920.
 use std::num::nearest_u32_to_f32;
 ghost use Prim.Native.Nat.{_≤_};
 ghost use lib.ListN.{length};

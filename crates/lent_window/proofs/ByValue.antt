@@ -56,7 +56,8 @@ module _ {M : Type 1} (𝓤 : URA M) (H : Heap 𝓤) (A : Atoms 𝓤) (W : Given
 
     -- whatever follows at the end, where the result r is the machine value u, is had by running
     abbrev pub Walk : (List Val → (Val → SProp 𝓤) → SProp 𝓤) → Valss (typesAt ss tt) → Type 2
-    Walk run vss = (Kf : Val → SProp 𝓤) → ((r : R .Denot) (u : Val) → Ensured r → ent 𝓤 (emp 𝓤) (sem 𝓤 H A (R .own r (u ∷ []))) → ent 𝓤 (emp 𝓤) (Kf u))
+    Walk run vss = (Kf : Val → SProp 𝓤)
+        → ((r : R .Denot) (u : Val) → Ensured r → ent 𝓤 (emp 𝓤) (sem 𝓤 H A (R .own r (u ∷ []))) → ent 𝓤 (emp 𝓤) (Kf u))
         → ent 𝓤 (emp 𝓤) (run (flat (typesAt ss tt) vss) Kf)
 
     ends : (vss : Valss (typesAt ss tt)) (r : R .Denot) (u : Val) → Ensured r → ent 𝓤 (emp 𝓤) (sem 𝓤 H A (R .own r (u ∷ [])))

@@ -14,7 +14,7 @@ use printing::words::line_end;
 use printing::words::number;
 use printing::words::text;
 
-// The line is looked through before a word of the answer is printed.
+// A call out of form makes the whole line bad, so all of them are read before a word is printed.
 pub fn answer(line: &[u8], place: Place, out: &mut Buffer, p: Printed) -> Printed {
     let n = read(line, place);
     let count = n.value;
@@ -28,8 +28,8 @@ pub fn answer(line: &[u8], place: Place, out: &mut Buffer, p: Printed) -> Printe
     line_end(out, answered)
 }
 
-// Whether the rest of the line is so many calls. It has no more words than bytes, so a larger count is
-// false at once.
+// Whether the rest of the line is so many calls. A line has no more words than bytes: a larger count
+// is not counted up to.
 fn are_ops(line: &[u8], first: Place, count: u64) -> bool {
     if (line.len() as u64) < count {
         return false;

@@ -1,4 +1,4 @@
-// A list of calls, run on a window that is empty at first. The window is pushed to, altered and cleared where it stands.
+// A list of calls, run on a window that is empty at first: `p`, `r` and `c` by the lent calls, so that these are run too.
 use crate::op::Op;
 use crate::op::read_op;
 use endpoint::EndpointData;
@@ -26,7 +26,7 @@ struct Run {
     printed: Printed,
 }
 
-// What a call answers: a number, and for `g` a place beside it.
+// What a call answers: a number, and for `g` an x beside it.
 enum Answer {
     Number(u64),
     Got(u32, f32),
