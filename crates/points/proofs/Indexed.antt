@@ -52,3 +52,20 @@ points-take (suc e) k (x ∷ y ∷ p) = let n : 2 * suc e ≡ suc (suc (2 * e)) 
 
 pub points-first : (p : List Float) (k : ℕ) → 2 ≤ length p → endpointsOf k p ≡ endpointAt p k 0 ∷ drop 1 (endpointsOf k p)
 points-first p k h = points-at p k 0 (omega arith)
+
+pub points-drop : (e k : ℕ) (p : List Float) → endpointsOf (k + e) (drop (2 * e) p) ≡ drop e (endpointsOf k p)
+unfolding endpointsOf
+points-drop zero k p = let n : k + 0 ≡ k = omega arith in rw n
+points-drop (suc e) k [] = let n : 2 * suc e ≡ suc (suc (2 * e)) = omega arith in rw n
+points-drop (suc e) k (x ∷ []) = let n : 2 * suc e ≡ suc (suc (2 * e)) = omega arith in rw n
+points-drop (suc e) k (x ∷ y ∷ p) =
+    let n : 2 * suc e ≡ suc (suc (2 * e)) = omega arith in
+    let m : k + suc e ≡ k + 1 + e = omega arith in
+    rw (n, m) (points-drop e (k + 1) p)
+
+-- n points from the one at e on
+pub points-part : (e n : ℕ) (p : List Float) → endpointsOf e (take (2 * (e + n) - 2 * e) (drop (2 * e) p)) ≡ take n (drop e (endpointsOf 0 p))
+points-part e n p =
+    let l : 2 * (e + n) - 2 * e ≡ 2 * n = omega arith in
+    let z : e ≡ 0 + e = omega arith in
+    rw (l, points-take n e (drop (2 * e) p)) (ap (λ (k : ℕ). take n (endpointsOf k (drop (2 * e) p))) z ∙ ap (take n) (points-drop e 0 p))

@@ -2,12 +2,15 @@
 //
 // p holds the run's coordinates, two to a point; k is the number of its first endpoint.
 use course::kept::is_near;
+use course::leg::Leg;
+use course::leg::leg_of;
 use endpoint::Endpoint;
 use endpoint::EndpointId;
 use plane::vector::Point;
 ghost use mathlib.Core.Path.{_≡_};
 ghost use Prim.Native.Nat.{_+_, _*_, _≤_, _<_};
 ghost use lib.ListN.{length};
+ghost use Rattle.course.specs.Leg.{firstLegOf};
 ghost use Rattle.points.specs.Points.{endpointAt};
 ghost use Rattle.points.specs.Kept.{FirstFar, lookedOf, Ended};
 
@@ -40,6 +43,16 @@ pub fn first_far(p: &[f32], k: u32) -> usize
         i += 1;
     }
     i
+}
+
+// From p0 to the second kept point, which stands at i.
+pub fn first_leg(h: f32, p: &[f32], k: u32, i: usize) -> Leg
+    requires { ⌜ (2 * i + 2 ≤ length (now p)) × (k + i < 65536) ⌝ }
+    ensures { λ r. ⌜ r ≡ firstLegOf h (endpointAt (now (p .entry)) k 0) (endpointAt (now (p .entry)) k i) ⌝ }
+{
+    let p0 = endpoint_at(p, k, 0);
+    let p1 = endpoint_at(p, k, i);
+    leg_of(h, 0.0, p0, p1)
 }
 
 // How far a look for the end of a closed run has come: the last kept point, and the number of points

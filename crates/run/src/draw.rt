@@ -73,7 +73,7 @@ fn draw_closed(
 }
 
 // Rule 2: whether a run of one kept point draws the empty cap.
-fn draws_cap(o: Stroke, closed: bool, lines: bool) -> bool
+pub fn draws_cap(o: Stroke, closed: bool, lines: bool) -> bool
     ensures { λ r. ⌜ r ≡ drawsCap o closed lines ⌝ }
 {
     if closed {

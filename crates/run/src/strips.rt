@@ -3,10 +3,9 @@
 use course::joint::end_cap;
 use course::joint::start_cap;
 use course::leg::Leg;
-use course::leg::leg_of;
 use endpoint::Endpoint;
 use path::options::Stroke;
-use points::endpoint_at;
+use points::first_leg;
 use strip::Strip;
 use strip::put_joint;
 use strip::start;
@@ -15,23 +14,10 @@ use walk::advance;
 use walk::visit_all;
 ghost use mathlib.Core.Bool.{true, false};
 ghost use mathlib.Core.List.{[], _∷_};
-ghost use mathlib.Core.Path.{_≡_};
 ghost use Rattle.course.specs.Joint.{startCapOf, endCapOf, jointsOf};
-ghost use Rattle.course.specs.Leg.{firstLegOf};
 ghost use Rattle.points.specs.Kept.{runFrom};
-ghost use Rattle.points.specs.Points.{endpointAt};
 ghost use Rattle.strip.specs.Strip.{Has, Puts, startOf};
 ghost use Rattle.run.specs.Strips.{Within, Begins, roundOf};
-
-// From p0 to the second kept point.
-fn first_leg(o: Stroke, p: &[f32], k: u32, i: usize) -> Leg
-    requires { ⌜ Within (now p) k i ⌝ }
-    ensures { λ r. ⌜ r ≡ firstLegOf (o .«half_width») (endpointAt (now (p .entry)) k 0) (endpointAt (now (p .entry)) k i) ⌝ }
-{
-    let p0 = endpoint_at(p, k, 0);
-    let p1 = endpoint_at(p, k, i);
-    leg_of(o.half_width, 0.0, p0, p1)
-}
 
 // The start cap.
 fn begin(v: &mut [f32], t: &mut [u16], o: Stroke, leg: Leg, base: usize) -> Walk
@@ -70,7 +56,7 @@ pub fn write_open(
     requires { ⌜ Has (startOf base) (jointsOf false o (runFrom (now p) k i)) (now v) (now t) ⌝ }
     ensures { λ r. ⌜ Puts (jointsOf false o (runFrom (now (p .entry)) k i)) (startOf base) (now (v .entry)) (now (v .exit)) (now (t .entry)) (now (t .exit)) r ⌝ }
 {
-    let leg = first_leg(o, p, k, i);
+    let leg = first_leg(o.half_width, p, k, i);
     let begun = begin(v, t, o, leg, base);
     let w = visit_all(v, t, o, begun, p, k, i + 1);
     finish(v, t, o, w)
@@ -100,7 +86,7 @@ pub fn write_round(
     requires { ⌜ Has (startOf base) (jointsOf true o (runFrom (now p) k i)) (now v) (now t) ⌝ }
     ensures { λ r. ⌜ Puts (jointsOf true o (runFrom (now (p .entry)) k i)) (startOf base) (now (v .entry)) (now (v .exit)) (now (t .entry)) (now (t .exit)) r ⌝ }
 {
-    let leg = first_leg(o, p, k, i);
+    let leg = first_leg(o.half_width, p, k, i);
     let begun = Walk {
         leg: leg,
         strip: start(base),

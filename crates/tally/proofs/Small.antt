@@ -1,15 +1,17 @@
 -- A point adds at most four vertices and one leg. Assumes nothing.
-use Prim.Native.Nat.{ℕ, _+_, _≤_}
+use Prim.Native.Nat.{ℕ, _+_, _*_, _≤_}
 use mathlib.Core.Bool.{Bool, true, false, cond}
+use mathlib.Core.List.{List, [], _∷_}
 use native.Mathlib.Omega.{arith}
 use lib.Dec.{ltb}
+use lib.ListN.{length}
 use Rattle.endpoint.specs.declared.Endpoint.{Endpoint}
 use Rattle.path.specs.declared.options.Stroke.{Stroke}
 use Rattle.course.specs.Joint.{jointOf}
 use Rattle.course.specs.Kept.{near}
 use Rattle.course.specs.Leg.{nextLegOf, shortOf}
 use Rattle.strip.proofs.Joints.{side-few}
-use Rattle.tally.specs.Tally.{shortAfter, advancedOf, visitedOf}
+use Rattle.tally.specs.Tally.{shortAfter, advancedOf, visitedOf, talliedOf}
 use Rattle.tally.specs.declared.Tally.{Tally}
 
 pub record Grown (t r : Tally) : Type 0 where
@@ -42,3 +44,17 @@ visited-grown o t p = go (near (t .leg .to) p)
     go : (b : Bool) → Grown t (cond b t (advancedOf o t p))
     go true = record { vertices = omega arith; legs = omega arith; short = omega arith }
     go false = advanced-grown o t p
+
+-- so many points, so many times that
+pub record GrownBy (n : ℕ) (t r : Tally) : Type 0 where
+  pub vertices : r .vertices ≤ t .vertices + 4 * n
+  pub legs : r .legs ≤ t .legs + n
+  pub short : r .short ≤ t .short + n
+
+pub tallied-grown : (o : Stroke) (t : Tally) (ps : List Endpoint) → GrownBy (length ps) t (talliedOf o t ps)
+unfolding talliedOf
+tallied-grown o t [] = record { vertices = omega arith; legs = omega arith; short = omega arith }
+tallied-grown o t (p ∷ ps) =
+    let g = visited-grown o t p in
+    let h = tallied-grown o (visitedOf o t p) ps in
+    record { vertices = omega (arith, g .vertices, h .vertices); legs = omega (arith, g .legs, h .legs); short = omega (arith, g .short, h .short) }

@@ -1,8 +1,8 @@
--- `run::strips::first_leg` meets its contract. Assumes nothing.
+-- `points::first_leg` meets its contract. Assumes nothing.
 use native.Mathlib.Omega.{arith}
 use borrow.Author.Needs.{needs}
-use Rattle.run.proofs.strips.first_leg.Statement.{statement}
-use Rattle.run.proofs.strips.first_leg.Tie as tie
+use Rattle.points.proofs.first_leg.Statement.{statement}
+use Rattle.points.proofs.first_leg.Tie as tie
 
 endpoint-at-requires : tie.Need-endpoint-at-requires
 endpoint-at-requires c κs = omega (arith, c .before .pre)

@@ -1,0 +1,2 @@
+-- `Laws` says what the tally along a run counts.
+pub mod Laws
