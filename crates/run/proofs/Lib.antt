@@ -2,3 +2,4 @@
 pub mod Splits
 pub mod Writing
 pub mod Whole
+pub mod Facts

@@ -13,6 +13,7 @@ use Rattle.endpoint.specs.declared.Endpoint.{Endpoint}
 use Rattle.endpoint.specs.declared.EndpointData.{EndpointData}
 use Rattle.vertices.specs.Cap.{capVerticesOf, capTrianglesOf}
 use Rattle.vertices.specs.Vertex.{triangleOf}
+use Rattle.vertices.proofs.Laws.{length-pair}
 use Rattle.lists.specs.Over.{over}
 use Rattle.lists.proofs.Laws.{over-none, length-over}
 use Rattle.lists.proofs.Parts.{behind, part-is}
@@ -26,10 +27,11 @@ use Rattle.points.proofs.Laws.{kept-far, kept-alone, kept-ended}
 use Rattle.strip.specs.Strip.{Has, Puts, startOf, trianglesFrom, stepsOf, Sound}
 use Rattle.strip.specs.Triangle.{Tri, flatT, between, trianglesOf}
 use Rattle.strip.specs.declared.Strip.{Strip}
+use Rattle.strip.proofs.Joints.{length-vertices}
 use Rattle.strip.proofs.Runs.{triangles-are}
 use Rattle.strip.proofs.Steps.{steps-vertices, steps-triangles, sound-start, sound-steps}
 use Rattle.strip.proofs.Triangles.{flatT-append, length-flatT}
-use Rattle.run.specs.Run.{nothing, emptyCap, along, shapeCount, shapeVertices, shapeTriangles, shapeOfKept, shapeOf, Place, Draws}
+use Rattle.run.specs.Run.{Shape, nothing, emptyCap, along, shapeCount, shapeVertices, shapeTriangles, shapeOfKept, shapeOf, Place, Draws}
 
 length-all : (closed : Bool) (k : ℕ) (js : List EndpointData)
     → length (trianglesOf closed k js) ≡ length (trianglesFrom (startOf k) js) + length (cond closed (between (stepsOf (startOf k) js .last) (stepsOf (startOf k) js .first)) [])
@@ -98,6 +100,13 @@ module _ (o : Stroke) (k : ℕ) (js : List EndpointData) (v v' : List Float) (t 
         count = ap (λ (x : Strip). x .vertices) (e .state) ∙ steps-vertices (startOf k) js ∙ omega arith;
         faces = omega (arith, so-far, length-all true k js, ap (length {A = Tri}) same-sections);
       }
+
+-- ---- five floats to a vertex
+pub length-shape : (o : Stroke) (s : Shape) → length (shapeVertices o s) ≡ 5 * shapeCount s
+unfolding shapeVertices shapeCount capVerticesOf
+length-shape o nothing = refl
+length-shape o (emptyCap p) = rw (length-append, length-pair, length-pair)
+length-shape o (along js) = length-vertices js
 
 -- ---- one kept point
 pub draws-nothing : (o : Stroke) (closed : Bool) (k : ℕ) (v : List Float) (t : List ℕ) → Draws o closed k nothing v v t t 0 0

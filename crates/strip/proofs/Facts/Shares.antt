@@ -36,7 +36,7 @@ in-c a b x = rw (eq-eqb x x refl) (go (eqb a x) (eqb b x))
     go false true = refl
     go false false = refl
 
-in-none : (a b c x : ℕ) → x ≢ a → x ≢ b → x ≢ c → inTri (record { a = a; b = b; c = c }) x ≡ 0
+pub in-none : (a b c x : ℕ) → x ≢ a → x ≢ b → x ≢ c → inTri (record { a = a; b = b; c = c }) x ≡ 0
 unfolding inTri
 in-none a b c x f g h = rw (ne-eqb a x (λ z. f (sym z)), ne-eqb b x (λ z. g (sym z)), ne-eqb c x (λ z. h (sym z)))
 

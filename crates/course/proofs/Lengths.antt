@@ -1,0 +1,75 @@
+-- How many points are kept, and how many joints and legs they make: n points, n joints, and n legs, or one fewer where the run is open. Assumes nothing.
+use Prim.Native.Nat.{suc, _+_, _≤_}
+use mathlib.Core.Path.{_≡_, refl, ap, _∙_}
+use mathlib.Core.Bool.{Bool, true, false, cond}
+use mathlib.Core.List.{List, [], _∷_, _++_}
+use native.Mathlib.Omega.{arith}
+use lib.Ieee.{Float}
+use lib.ListN.{length, length-append}
+use Rattle.endpoint.specs.declared.Endpoint.{Endpoint}
+use Rattle.path.specs.declared.options.Stroke.{Stroke}
+use Rattle.course.specs.Kept.{near, keptBehind, allNear, trimmed, keptPoints}
+use Rattle.course.specs.Leg.{firstLegOf, nextLegOf, legsFrom, legsOf, shortOf, firstShort}
+use Rattle.course.specs.Joint.{jointsFrom, jointsOf}
+use Rattle.course.specs.declared.leg.Leg.{Leg}
+
+behind-few : (l : Endpoint) (ps : List Endpoint) → length (keptBehind l ps) ≤ length ps
+unfolding keptBehind
+behind-few l [] = omega arith
+behind-few l (p ∷ ps) = go (near l p) (behind-few l ps) (behind-few p ps)
+  where
+    go : (b : Bool) → length (keptBehind l ps) ≤ length ps → length (keptBehind p ps) ≤ length ps → length (cond b (keptBehind l ps) (p ∷ keptBehind p ps)) ≤ suc (length ps)
+    go true a b = omega arith
+    go false a b = omega arith
+
+trimmed-few : (p0 : Endpoint) (ps : List Endpoint) → length (trimmed p0 ps) ≤ length ps
+unfolding trimmed
+trimmed-few p0 [] = omega arith
+trimmed-few p0 (p ∷ ps) = go (allNear p0 (p ∷ ps)) (trimmed-few p0 ps)
+  where
+    go : (b : Bool) → length (trimmed p0 ps) ≤ length ps → length (cond b [] (p ∷ trimmed p0 ps)) ≤ suc (length ps)
+    go true a = omega arith
+    go false a = omega arith
+
+pub kept-few : (closed : Bool) (ps : List Endpoint) → length (keptPoints closed ps) ≤ length ps
+unfolding keptPoints
+kept-few closed [] = omega arith
+kept-few true (p ∷ ps) = omega (arith, trimmed-few p (keptBehind p ps), behind-few p ps)
+kept-few false (p ∷ ps) = omega (arith, behind-few p ps)
+
+-- an open run has its end cap too
+joints-from : (closed : Bool) (o : Stroke) (leg : Leg) (ps : List Endpoint) → length (jointsFrom closed o leg ps) ≡ length ps + cond closed 0 1
+unfolding jointsFrom
+joints-from true o leg [] = refl
+joints-from false o leg [] = refl
+joints-from closed o leg (p ∷ ps) = omega (arith, joints-from closed o (nextLegOf (o .«half_width») leg p) ps)
+
+pub joints-length : (closed : Bool) (o : Stroke) (p q : Endpoint) (ks : List Endpoint) → length (jointsOf closed o (p ∷ q ∷ ks)) ≡ length (p ∷ q ∷ ks)
+unfolding jointsOf
+joints-length true o p q ks = joints-from true o (firstLegOf (o .«half_width») p q) (ks ++ p ∷ q ∷ []) ∙ simp length-append (omega arith)
+joints-length false o p q ks = omega (arith, joints-from false o (firstLegOf (o .«half_width») p q) ks)
+
+legs-from : (h : Float) (leg : Leg) (ps : List Endpoint) → length (legsFrom h leg ps) ≡ length ps
+unfolding legsFrom
+legs-from h leg [] = refl
+legs-from h leg (p ∷ ps) = ap suc (legs-from h (nextLegOf h leg p) ps)
+
+legs-few : (closed : Bool) (h : Float) (p q : Endpoint) (ks : List Endpoint) → length (legsOf closed h (p ∷ q ∷ ks)) ≤ length (p ∷ q ∷ ks)
+unfolding legsOf
+legs-few true h p q ks = omega (arith, legs-from h (firstLegOf h p q) (ks ++ p ∷ []), length-append ks (p ∷ []))
+legs-few false h p q ks = omega (arith, legs-from h (firstLegOf h p q) (ks ++ []), length-append {A = Endpoint} ks [])
+
+pub legs-length : (closed : Bool) (h : Float) (ks : List Endpoint) → length (legsOf closed h ks) ≤ length ks
+unfolding legsOf
+legs-length closed h [] = omega arith
+legs-length closed h (p ∷ []) = omega arith
+legs-length closed h (p ∷ q ∷ ks) = legs-few closed h p q ks
+
+pub short-few : (ls : List Leg) → firstShort ls ≤ length ls
+unfolding firstShort
+short-few [] = omega arith
+short-few (l ∷ ls) = go (shortOf l) (short-few ls)
+  where
+    go : (b : Bool) → firstShort ls ≤ length ls → cond b 0 (suc (firstShort ls)) ≤ suc (length ls)
+    go true a = omega arith
+    go false a = omega arith
