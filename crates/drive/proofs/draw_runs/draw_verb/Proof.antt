@@ -1,0 +1,146 @@
+-- `drive::draw_runs::draw_verb` meets its contract. Assumes nothing.
+use borrow.Author.Needs.{needs}
+use Prim.Native.Nat.{_-_}
+use mathlib.Core.Path.{_≡_, sym, _∙_}
+use mathlib.Core.Bool.{false}
+use native.Mathlib.Omega.{arith}
+use lib.ListN.{length-take, length-drop}
+use Rattle.path.specs.Verbs.{names}
+use Rattle.points.specs.Points.{endpointsOf}
+use Rattle.points.proofs.Indexed.{points-part}
+use Rattle.drive.specs.Cursor.{currentOf, endedOf}
+use Rattle.drive.proofs.Drawing.{puts-none, run-place, run-puts, one-has, one-puts}
+use Rattle.drive.proofs.draw_runs.draw_verb.Statement.{statement}
+use Rattle.drive.proofs.draw_runs.draw_verb.Tie as tie
+
+names-point-requires : tie.Need-names-point-requires
+names-point-requires c κs = search needs
+
+returns : tie.Need-returns
+unfolding endedOf
+returns c = rw (← c .before .names-point .ensures, c .if1 .taken) (puts-none _ _ _ _)
+
+mul-from : tie.Need-mul-from
+mul-from c = search needs
+
+add-to : tie.Need-add-to
+add-to c = search needs
+
+mul-to : tie.Need-mul-to
+mul-to c = search needs
+
+mul-at : tie.Need-mul-at
+mul-at c = omega (arith, c .before .before .before .before .before .before .before .pre .1 .vertices)
+
+mul-on : tie.Need-mul-on
+mul-on c = search needs
+
+mul-draw-run : tie.Need-mul-draw-run
+mul-draw-run c = search needs
+
+sub-draw-run : tie.Need-sub-draw-run
+sub-draw-run c = search needs
+
+part-draw-run-start : tie.Need-part-draw-run-start
+part-draw-run-start c = search needs
+
+part-draw-run-end : tie.Need-part-draw-run-end
+part-draw-run-end c = search needs
+
+mul-draw-run-2 : tie.Need-mul-draw-run-2
+mul-draw-run-2 c = search needs
+
+sub-draw-run-2 : tie.Need-sub-draw-run-2
+sub-draw-run-2 c = search needs
+
+part-draw-run-start-2 : tie.Need-part-draw-run-start-2
+part-draw-run-start-2 c = search needs
+
+part-draw-run-end-2 : tie.Need-part-draw-run-end-2
+part-draw-run-end-2 c = search needs
+
+mul-draw-run-3 : tie.Need-mul-draw-run-3
+mul-draw-run-3 c = search needs
+
+sub-draw-run-3 : tie.Need-sub-draw-run-3
+sub-draw-run-3 c = search needs
+
+part-draw-run-start-3 : tie.Need-part-draw-run-start-3
+part-draw-run-start-3 c = search needs
+
+part-draw-run-end-3 : tie.Need-part-draw-run-end-3
+part-draw-run-end-3 c = search needs
+
+cast-draw-run : tie.Need-cast-draw-run
+cast-draw-run c = search needs
+
+draw-run-requires : tie.Need-draw-run-requires
+draw-run-requires c κs =
+    let g = c .before .before .before .before .before .before .before .before .before .before .before .args .g in
+    let cs = c .before .before .before .before .before .before .before .before .before .before .before .args .coords .now in
+    let n : names (c .before .before .before .before .before .before .before .before .before .before .before .args .verb) ≡ false = sym (c .before .before .before .before .before .before .before .names-point .ensures) ∙ c .before .before .before .before .before .before .if1 .left in
+    ((simp (length-take, length-drop) (omega (arith, c .before .before .before .before .before .before .before .before .before .before .before .pre .0 .few)), omega (arith, c .before .before .before .before .before .before .before .before .before .before .before .pre .0 .end, c .before .before .before .before .before .before .before .before .before .before .before .pre .0 .few)), rw (points-part (g .from) (g .size) cs) (run-place _ _ (currentOf g (c .before .before .before .before .before .before .before .before .before .before .before .args .verb) (endpointsOf 0 cs)) _ _ (one-has _ _ g (c .before .before .before .before .before .before .before .before .before .before .before .args .verb) _ _ _ n (c .before .before .before .before .before .before .before .before .before .before .before .pre .1))))
+
+add-t16 : tie.Need-add-t16
+add-t16 c =
+    let g = c .before .before .before .before .before .before .before .before .before .before .before .before .before .before .before .before .before .args .g in
+    let cs = c .before .before .before .before .before .before .before .before .before .before .before .before .before .before .before .before .before .args .coords .now in
+    let n : names (c .before .before .before .before .before .before .before .before .before .before .before .before .before .before .before .before .before .args .verb) ≡ false = sym (c .before .before .before .before .before .before .before .before .before .before .before .before .before .names-point .ensures) ∙ c .before .before .before .before .before .before .before .before .before .before .before .before .if1 .left in
+    let p = run-place _ _ (currentOf g (c .before .before .before .before .before .before .before .before .before .before .before .before .before .before .before .before .before .args .verb) (endpointsOf 0 cs)) _ _ (one-has _ _ g (c .before .before .before .before .before .before .before .before .before .before .before .before .before .before .before .before .before .args .verb) _ _ _ n (c .before .before .before .before .before .before .before .before .before .before .before .before .before .before .before .before .before .pre .1)) in
+    let e = rw (points-part (g .from) (g .size) cs) at (c .before .before .before .before .before .draw-run .ensures) in
+    omega (arith, e .count, p .numbers)
+
+add-t18 : tie.Need-add-t18
+add-t18 c =
+    let g = c .before .before .before .before .before .before .before .before .before .before .before .before .before .before .before .before .before .before .args .g in
+    let cs = c .before .before .before .before .before .before .before .before .before .before .before .before .before .before .before .before .before .before .args .coords .now in
+    let n : names (c .before .before .before .before .before .before .before .before .before .before .before .before .before .before .before .before .before .before .args .verb) ≡ false = sym (c .before .before .before .before .before .before .before .before .before .before .before .before .before .before .names-point .ensures) ∙ c .before .before .before .before .before .before .before .before .before .before .before .before .before .if1 .left in
+    let p = run-place _ _ (currentOf g (c .before .before .before .before .before .before .before .before .before .before .before .before .before .before .before .before .before .before .args .verb) (endpointsOf 0 cs)) _ _ (one-has _ _ g (c .before .before .before .before .before .before .before .before .before .before .before .before .before .before .before .before .before .before .args .verb) _ _ _ n (c .before .before .before .before .before .before .before .before .before .before .before .before .before .before .before .before .before .before .pre .1)) in
+    let e = rw (points-part (g .from) (g .size) cs) at (c .before .before .before .before .before .before .draw-run .ensures) in
+    omega (arith, e .faces, p .faces, c .before .before .before .before .before .before .before .before .before .before .before .before .before .before .before .before .before .before .pre .1 .faces)
+
+same-length : tie.Need-same-length
+same-length c = search needs
+
+same-length-2 : tie.Need-same-length-2
+same-length-2 c = search needs
+
+returns-2 : tie.Need-returns-2
+returns-2 c =
+    let g = c .before .before .before .before .before .before .before .before .before .before .before .before .before .before .before .before .before .before .args .g in
+    let cs = c .before .before .before .before .before .before .before .before .before .before .before .before .before .before .before .before .before .before .args .coords .now in
+    let n : names (c .before .before .before .before .before .before .before .before .before .before .before .before .before .before .before .before .before .before .args .verb) ≡ false = sym (c .before .before .before .before .before .before .before .before .before .before .before .before .before .before .names-point .ensures) ∙ c .before .before .before .before .before .before .before .before .before .before .before .before .before .if1 .left in
+    let h = one-has _ _ g (c .before .before .before .before .before .before .before .before .before .before .before .before .before .before .before .before .before .before .args .verb) _ _ _ n (c .before .before .before .before .before .before .before .before .before .before .before .before .before .before .before .before .before .before .pre .1) in
+    let e = rw (points-part (g .from) (g .size) cs) at (c .before .before .before .before .before .before .draw-run .ensures) in
+    one-puts _ _ g (c .before .before .before .before .before .before .before .before .before .before .before .before .before .before .before .before .before .before .args .verb) _ _ _ _ _ _ n (run-puts _ _ (currentOf g (c .before .before .before .before .before .before .before .before .before .before .before .before .before .before .before .before .before .before .args .verb) (endpointsOf 0 cs)) _ _ h _ _ _ _ e)
+
+pub draw-verb-spec : {M : Type 1} → statement M
+draw-verb-spec =
+    tie.close
+    (tie.spec
+    names-point-requires
+    returns
+    mul-from
+    add-to
+    mul-to
+    mul-at
+    mul-on
+    mul-draw-run
+    sub-draw-run
+    part-draw-run-start
+    part-draw-run-end
+    mul-draw-run-2
+    sub-draw-run-2
+    part-draw-run-start-2
+    part-draw-run-end-2
+    mul-draw-run-3
+    sub-draw-run-3
+    part-draw-run-start-3
+    part-draw-run-end-3
+    cast-draw-run
+    draw-run-requires
+    add-t16
+    add-t18
+    same-length
+    same-length-2
+    returns-2)

@@ -1,0 +1,4 @@
+-- `Runs` is the mesh of all runs of a path; `Cursor` and `Passes` are for the passes over its verbs.
+pub mod Runs
+pub mod Cursor
+pub mod Passes

@@ -1,0 +1,74 @@
+// The writing pass.
+use crate::cursor::Cursor;
+use crate::cursor::moved;
+use crate::cursor::start;
+use path::options::Stroke;
+use path::verbs::END_CLOSED;
+use path::verbs::names_point;
+use run::draw::Drawn;
+use run::draw::draw_run;
+ghost use mathlib.Core.Path.{_≡_};
+ghost use Rattle.lists.specs.Over.{over};
+ghost use Rattle.points.specs.Points.{endpointsOf};
+ghost use Rattle.strip.specs.Triangle.{flatT};
+ghost use Rattle.drive.specs.Runs.{runsOf, verticesOf, trianglesOf};
+ghost use Rattle.drive.specs.Cursor.{endedOf};
+ghost use Rattle.drive.specs.Passes.{Paired, Inside, Has, Puts, undrawn};
+
+// A verb that ends a run draws it, in the parts of the lists that begin where the last run ended.
+fn draw_verb(
+    v: &mut [f32],
+    t: &mut [u16],
+    o: Stroke,
+    coords: &[f32],
+    g: Cursor,
+    verb: u8,
+    d: Drawn,
+) -> Drawn
+    requires { ⌜ Inside g (now coords) ⌝ }
+    requires { ⌜ Has o d (endedOf g verb (endpointsOf 0 (now coords))) (now v) (now t) ⌝ }
+    ensures { λ r. ⌜ Puts o d (endedOf g verb (endpointsOf 0 (now (coords .entry)))) (now (v .entry)) (now (v .exit)) (now (t .entry)) (now (t .exit)) r ⌝ }
+{
+    if names_point(verb) {
+        return d;
+    }
+    let from = 2 * g.from;
+    let to = 2 * (g.from + g.size);
+    let n = d.vertices;
+    let m = d.triangles;
+    let at = 5 * n;
+    let on = 3 * m;
+    let run = draw_run(
+        &mut v[at..],
+        &mut t[on..],
+        o,
+        &coords[from..to],
+        g.from as u32,
+        verb == END_CLOSED,
+        n,
+    );
+    Drawn {
+        vertices: n + run.vertices,
+        triangles: m + run.triangles,
+    }
+}
+
+pub fn draw_runs(v: &mut [f32], t: &mut [u16], o: Stroke, verbs: &[u8], coords: &[f32])
+    requires { ⌜ Paired (now verbs) (now coords) ⌝ }
+    requires { ⌜ Has o undrawn (runsOf (now verbs) (now coords)) (now v) (now t) ⌝ }
+    ensures { λ _. ⌜ now (v .exit) ≡ over (verticesOf o (runsOf (now (verbs .entry)) (now (coords .entry)))) (now (v .entry)) ⌝ }
+    ensures { λ _. ⌜ now (t .exit) ≡ over (flatT (trianglesOf o 0 (runsOf (now (verbs .entry)) (now (coords .entry))))) (now (t .entry)) ⌝ }
+{
+    let mut d = Drawn {
+        vertices: 0,
+        triangles: 0,
+    };
+    let mut g = start();
+    let mut i: usize = 0;
+    while i < verbs.len() {
+        let verb = verbs[i];
+        d = draw_verb(v, t, o, coords, g, verb, d);
+        g = moved(g, verb);
+        i += 1;
+    }
+}
