@@ -1,0 +1,44 @@
+-- `mesh::tessellate` meets its contract. Assumes nothing.
+use borrow.Author.Needs.{needs}
+use Rattle.mesh.specs.Mesh.{outcomeOf}
+use Rattle.mesh.proofs.tessellate.Statement.{statement}
+use Rattle.mesh.proofs.tessellate.Tie as tie
+
+stroke-of-requires : tie.Need-stroke-of-requires
+stroke-of-requires c κs = search needs
+
+enum-known-o : tie.Need-enum-known-o
+enum-known-o c = search needs
+
+mesh-stroked-requires : tie.Need-mesh-stroked-requires
+mesh-stroked-requires c κs = search needs
+
+enum-told : tie.Need-enum-told
+enum-told c = search needs
+
+same-length : tie.Need-same-length
+same-length c = search needs
+
+same-length-2 : tie.Need-same-length-2
+same-length-2 c = search needs
+
+returns : tie.Need-returns
+unfolding outcomeOf
+returns c = rw (← c .before .before .before .before .before .before .before .before .before .before .stroke-of .ensures, c .before .before .before .before .before .before .before .before .o .given .1) (c .before .before .before .before .mesh-stroked .ensures)
+
+returns-2 : tie.Need-returns-2
+unfolding outcomeOf
+returns-2 c = rw (← c .before .before .stroke-of .ensures, c .enum-told .given .1)
+
+pub tessellate-spec : {M : Type 1} → statement M
+tessellate-spec =
+    tie.close
+    (tie.spec
+    stroke-of-requires
+    enum-known-o
+    mesh-stroked-requires
+    enum-told
+    same-length
+    same-length-2
+    returns
+    returns-2)
