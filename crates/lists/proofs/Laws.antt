@@ -47,3 +47,16 @@ module _ {A : Type 0} where
   over-append [] ws xs h = refl
   over-append (v ∷ vs) ws [] h = absurd (omega arith)
   over-append (v ∷ vs) ws (x ∷ xs) h = ap (λ (l : List A). v ∷ l) (over-append vs ws xs (omega arith))
+
+  -- what is written is at the start, and nothing behind it is changed
+  pub take-over : (vs xs : List A) → length vs ≤ length xs → take (length vs) (over vs xs) ≡ vs
+  unfolding over
+  take-over [] xs h = refl
+  take-over (v ∷ vs) [] h = absurd (omega arith)
+  take-over (v ∷ vs) (x ∷ xs) h = ap (λ (l : List A). v ∷ l) (take-over vs xs (omega arith))
+
+  pub drop-over : (vs xs : List A) → drop (length vs) (over vs xs) ≡ drop (length vs) xs
+  unfolding over
+  drop-over [] xs = refl
+  drop-over (v ∷ vs) [] = refl
+  drop-over (v ∷ vs) (x ∷ xs) = drop-over vs xs

@@ -1,2 +1,3 @@
--- `Rooms` says when there is room, and that a counted path fits its lists.
+-- `Demand3` is the mission's sentence, proved of the definition. `Rooms` says that an accepted path is small enough, and that a mesh fits its lists.
+pub mod Demand3
 pub mod Rooms
