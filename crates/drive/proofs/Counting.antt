@@ -12,7 +12,7 @@ use Rattle.path.specs.Runs.{Run, runsFrom, pointsOf}
 use Rattle.course.specs.Leg.{firstShort}
 use Rattle.count.specs.Count.{none, countOf}
 use Rattle.count.specs.declared.Count.{Count}
-use Rattle.drive.specs.Runs.{vertexCount, trianglesOf, edgesOf, countsOf}
+use Rattle.drive.specs.Runs.{meshCount, meshTriangles, meshEdges, meshCounts}
 use Rattle.drive.specs.Cursor.{startOf, movedOf, endedOf}
 use Rattle.drive.specs.Passes.{Paired, Inside, Small, countBehind}
 use Rattle.drive.specs.declared.cursor.Cursor.{Cursor}
@@ -22,10 +22,10 @@ use Rattle.drive.proofs.Runs.{Bounded, one-is, runs-bounded, counts-beh
 pub record Counting (o : Stroke) (vs : List ℕ) (ps : List Endpoint) (i : ℕ) (g : Cursor) (c : Count) : Type 0 where
   pub done : List (Run Endpoint)
   pub passing : Passing vs ps i g done
-  pub counts : c ≡ countsOf o done
+  pub counts : c ≡ meshCounts o done
 
 pub counting-none : (o : Stroke) (vs : List ℕ) (ps : List Endpoint) → Counting o vs ps 0 startOf none
-unfolding vertexCount trianglesOf edgesOf firstShort
+unfolding meshCount meshTriangles meshEdges firstShort
 counting-none o vs ps = record { done = []; passing = pass-none vs ps; counts = refl }
 
 bounded-small : (n : ℕ) (c : Count) → n ≤ 4096 → Bounded n c → Small c
@@ -41,7 +41,7 @@ unfolding pointsOf
 run-small o closed g cs ps h =
     let r : Run Endpoint = record { closed = closed; points = take (g .size) (drop (g .from) ps) } in
     let n : length (pointsOf (r ∷ [])) ≤ 4096 = simp (length-append, length-take) (omega (arith, h .end, h .few)) in
-    rw (one-is o r) (bounded-small (length (pointsOf (r ∷ []))) (countsOf o (r ∷ [])) n (runs-bounded o (r ∷ [])))
+    rw (one-is o r) (bounded-small (length (pointsOf (r ∷ []))) (meshCounts o (r ∷ [])) n (runs-bounded o (r ∷ [])))
 
 module _ (o : Stroke) (vs : List ℕ) (ps : List Endpoint) (i : ℕ) (g : Cursor) (c : Count) (m : Counting o vs ps i g c) where
   pub counting-inside : (cs : List Float) → Paired vs cs → Inside g cs
@@ -51,7 +51,7 @@ module _ (o : Stroke) (vs : List ℕ) (ps : List Endpoint) (i : ℕ) (g : Cursor
   counting-small cs q =
       let n = length (pointsOf (m .done)) in
       let a = counting-inside cs q in
-      rw (m .counts) (bounded-small n (countsOf o (m .done)) (omega (arith, m .passing .few, a .end, a .few)) (runs-bounded o (m .done)))
+      rw (m .counts) (bounded-small n (meshCounts o (m .done)) (omega (arith, m .passing .few, a .end, a .few)) (runs-bounded o (m .done)))
 
   pub counting-turn : i < length vs → (r : Count) → r ≡ countBehind o c (endedOf g (getD vs i 0) ps) → Counting o vs ps (i + 1) (movedOf g (getD vs i 0)) r
   counting-turn h r e = record {
@@ -60,5 +60,5 @@ module _ (o : Stroke) (vs : List ℕ) (ps : List Endpoint) (i : ℕ) (g : Cursor
     counts = e ∙ ap (λ (x : Count). countBehind o x (endedOf g (getD vs i 0) ps)) (m .counts) ∙ counts-behind o (m .done) (endedOf g (getD vs i 0) ps);
   }
 
-  pub counting-all : length vs ≤ i → c ≡ countsOf o (runsFrom 0 vs ps)
-  counting-all h = m .counts ∙ ap (countsOf o) (pass-all vs ps i g (m .done) (m .passing) h)
+  pub counting-all : length vs ≤ i → c ≡ meshCounts o (runsFrom 0 vs ps)
+  counting-all h = m .counts ∙ ap (meshCounts o) (pass-all vs ps i g (m .done) (m .passing) h)

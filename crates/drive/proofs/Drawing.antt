@@ -18,7 +18,7 @@ use Rattle.strip.specs.Triangle.{flatT}
 use Rattle.strip.proofs.Triangles.{flatT-append, length-flatT}
 use Rattle.run.specs.Run.{shapeCount, shapeVertices, shapeTriangles, Place, Draws}
 use Rattle.run.specs.declared.draw.Drawn.{Drawn}
-use Rattle.drive.specs.Runs.{drawnOf, verticesOf, vertexCount, trianglesOf}
+use Rattle.drive.specs.Runs.{drawnOf, meshVertices, meshCount, meshTriangles}
 use Rattle.drive.specs.Cursor.{startOf, movedOf, currentOf, endedOf}
 use Rattle.drive.specs.Passes.{Paired, Inside, undrawn, Has, Puts}
 use Rattle.drive.specs.declared.cursor.Cursor.{Cursor}
@@ -27,20 +27,20 @@ use Rattle.drive.proofs.Runs.{vertices-append, count-append, triangles-
 
 -- ---- one run, in the parts that begin where the last run ended
 module _ (o : Stroke) (d : Drawn) (r : Run Endpoint) (v : List Float) (t : List ℕ) where
-  one-count : vertexCount o (r ∷ []) ≡ shapeCount (drawnOf o r)
-  unfolding vertexCount
+  one-count : meshCount o (r ∷ []) ≡ shapeCount (drawnOf o r)
+  unfolding meshCount
   one-count = omega arith
 
-  one-vertices : verticesOf o (r ∷ []) ≡ shapeVertices o (drawnOf o r)
-  unfolding verticesOf
+  one-vertices : meshVertices o (r ∷ []) ≡ shapeVertices o (drawnOf o r)
+  unfolding meshVertices
   one-vertices = append-nil (shapeVertices o (drawnOf o r))
 
-  one-triangles : trianglesOf o (d .vertices) (r ∷ []) ≡ shapeTriangles (r .closed) (d .vertices) (drawnOf o r)
-  unfolding trianglesOf
+  one-triangles : meshTriangles o (d .vertices) (r ∷ []) ≡ shapeTriangles (r .closed) (d .vertices) (drawnOf o r)
+  unfolding meshTriangles
   one-triangles = append-nil (shapeTriangles (r .closed) (d .vertices) (drawnOf o r))
 
   module _ (h : Has o d (r ∷ []) v t) where
-    faces-are : length (trianglesOf o (d .vertices) (r ∷ [])) ≡ length (shapeTriangles (r .closed) (d .vertices) (drawnOf o r))
+    faces-are : length (meshTriangles o (d .vertices) (r ∷ [])) ≡ length (shapeTriangles (r .closed) (d .vertices) (drawnOf o r))
     faces-are = ap length one-triangles
 
     v-room : 5 * d .vertices ≤ length v
@@ -68,7 +68,7 @@ module _ (o : Stroke) (d : Drawn) (r : Run Endpoint) (v : List Float) (t : List 
     }
 
 pub puts-none : (o : Stroke) (d : Drawn) (v : List Float) (t : List ℕ) → Puts o d [] v v t t d
-unfolding verticesOf vertexCount trianglesOf flatT
+unfolding meshVertices meshCount meshTriangles flatT
 puts-none o d v t = record {
   vertices = sym (rw (over-none (drop (5 * d .vertices) v)) (take-append-drop (5 * d .vertices) v));
   triangles = sym (rw (over-none (drop (3 * d .triangles) t)) (take-append-drop (3 * d .triangles) t));
@@ -90,13 +90,13 @@ module _ (o : Stroke) (d : Drawn) (g : Cursor) (verb : ℕ) (ps : List Endpoint)
 pub record Drawing (o : Stroke) (vs : List ℕ) (ps : List Endpoint) (v0 : List Float) (t0 : List ℕ) (i : ℕ) (g : Cursor) (d : Drawn) (v : List Float) (t : List ℕ) : Type 0 where
   pub done : List (Run Endpoint)
   pub passing : Passing vs ps i g done
-  pub vertices : v ≡ over (verticesOf o done) v0
-  pub triangles : t ≡ over (flatT (trianglesOf o 0 done)) t0
-  pub count : d .vertices ≡ vertexCount o done
-  pub faces : d .triangles ≡ length (trianglesOf o 0 done)
+  pub vertices : v ≡ over (meshVertices o done) v0
+  pub triangles : t ≡ over (flatT (meshTriangles o 0 done)) t0
+  pub count : d .vertices ≡ meshCount o done
+  pub faces : d .triangles ≡ length (meshTriangles o 0 done)
 
 pub drawing-none : (o : Stroke) (vs : List ℕ) (ps : List Endpoint) (v : List Float) (t : List ℕ) → Drawing o vs ps v t 0 startOf undrawn v t
-unfolding verticesOf vertexCount trianglesOf flatT
+unfolding meshVertices meshCount meshTriangles flatT
 drawing-none o vs ps v t = record { done = []; passing = pass-none vs ps; vertices = sym (over-none v); triangles = sym (over-none t); count = refl; faces = refl }
 
 module _ (o : Stroke) (vs : List ℕ) (ps : List Endpoint) (v0 : List Float) (t0 : List ℕ) (has : Has o undrawn (runsFrom 0 vs ps) v0 t0)
@@ -105,10 +105,10 @@ module _ (o : Stroke) (vs : List ℕ) (ps : List Endpoint) (v0 : List Float) (t0
   drawing-inside cs q = pass-inside vs ps i g (m .done) (m .passing) cs q
 
   pub same-v : length v ≡ length v0
-  same-v = ap length (m .vertices) ∙ length-over (verticesOf o (m .done)) v0
+  same-v = ap length (m .vertices) ∙ length-over (meshVertices o (m .done)) v0
 
   pub same-t : length t ≡ length t0
-  same-t = ap length (m .triangles) ∙ length-over (flatT (trianglesOf o 0 (m .done))) t0
+  same-t = ap length (m .triangles) ∙ length-over (flatT (meshTriangles o 0 (m .done))) t0
 
   module _ (h : i < length vs) where
     xs : List (Run Endpoint)
@@ -117,17 +117,17 @@ module _ (o : Stroke) (vs : List ℕ) (ps : List Endpoint) (v0 : List Float) (t0
     rest : List (Run Endpoint)
     rest = runsFrom (movedOf g (getD vs i 0) .size) (drop (i + 1) vs) (drop (movedOf g (getD vs i 0) .from) ps)
 
-    all-vertices : vertexCount o (runsFrom 0 vs ps) ≡ d .vertices + (vertexCount o xs + vertexCount o rest)
+    all-vertices : meshCount o (runsFrom 0 vs ps) ≡ d .vertices + (meshCount o xs + meshCount o rest)
     unfolding xs rest
     all-vertices =
-        ap (vertexCount o) (pass-split vs ps i g (m .done) (m .passing) h) ∙ count-append o (m .done) (xs ++ rest)
+        ap (meshCount o) (pass-split vs ps i g (m .done) (m .passing) h) ∙ count-append o (m .done) (xs ++ rest)
         ∙ omega (arith, count-append o xs rest, m .count)
 
-    all-triangles : length (trianglesOf o 0 (runsFrom 0 vs ps)) ≡ d .triangles + (length (trianglesOf o (d .vertices) xs) + length (trianglesOf o (d .vertices + vertexCount o xs) rest))
+    all-triangles : length (meshTriangles o 0 (runsFrom 0 vs ps)) ≡ d .triangles + (length (meshTriangles o (d .vertices) xs) + length (meshTriangles o (d .vertices + meshCount o xs) rest))
     unfolding xs rest
     all-triangles =
-        let z : 0 + vertexCount o (m .done) ≡ d .vertices = omega (arith, m .count) in
-        ap (λ (l : List (Run Endpoint)). length (trianglesOf o 0 l)) (pass-split vs ps i g (m .done) (m .passing) h)
+        let z : 0 + meshCount o (m .done) ≡ d .vertices = omega (arith, m .count) in
+        ap (λ (l : List (Run Endpoint)). length (meshTriangles o 0 l)) (pass-split vs ps i g (m .done) (m .passing) h)
         ∙ rw (triangles-append o 0 (m .done) (xs ++ rest), z, triangles-append o (d .vertices) xs rest, length-append, length-append) (omega (arith, m .faces))
 
     pub drawing-has : Has o d (endedOf g (getD vs i 0) ps) v t
@@ -143,22 +143,22 @@ module _ (o : Stroke) (vs : List ℕ) (ps : List Endpoint) (v0 : List Float) (t0
         → Drawing o vs ps v0 t0 (i + 1) (movedOf g (getD vs i 0)) r v' t'
     unfolding xs
     drawing-turn r v' t' e =
-        let z : 0 + vertexCount o (m .done) ≡ d .vertices = omega (arith, m .count) in
+        let z : 0 + meshCount o (m .done) ≡ d .vertices = omega (arith, m .count) in
         let k = drawing-has in
-        let lv : 5 * d .vertices ≡ length (verticesOf o (m .done)) = omega (arith, length-vertices o (m .done), m .count) in
-        let lt : 3 * d .triangles ≡ length (flatT (trianglesOf o 0 (m .done))) = omega (arith, length-flatT (trianglesOf o 0 (m .done)), m .faces) in
-        let hv : length (verticesOf o (m .done)) ≤ length v0 = omega (arith, k .vertices, same-v) in
-        let ht : length (flatT (trianglesOf o 0 (m .done))) ≤ length t0 = omega (arith, k .triangles, same-t) in
+        let lv : 5 * d .vertices ≡ length (meshVertices o (m .done)) = omega (arith, length-vertices o (m .done), m .count) in
+        let lt : 3 * d .triangles ≡ length (flatT (meshTriangles o 0 (m .done))) = omega (arith, length-flatT (meshTriangles o 0 (m .done)), m .faces) in
+        let hv : length (meshVertices o (m .done)) ≤ length v0 = omega (arith, k .vertices, same-v) in
+        let ht : length (flatT (meshTriangles o 0 (m .done))) ≤ length t0 = omega (arith, k .triangles, same-t) in
         record {
           done = m .done ++ xs;
           passing = pass-turn vs ps i g (m .done) (m .passing) h;
-          vertices = e .vertices ∙ rw (lv, m .vertices, vertices-append o (m .done) xs) (sym (over-append (verticesOf o (m .done)) (verticesOf o xs) v0 hv));
-          triangles = e .triangles ∙ rw (lt, m .triangles, triangles-append o 0 (m .done) xs, z, flatT-append) (sym (over-append (flatT (trianglesOf o 0 (m .done))) (flatT (trianglesOf o (d .vertices) xs)) t0 ht));
+          vertices = e .vertices ∙ rw (lv, m .vertices, vertices-append o (m .done) xs) (sym (over-append (meshVertices o (m .done)) (meshVertices o xs) v0 hv));
+          triangles = e .triangles ∙ rw (lt, m .triangles, triangles-append o 0 (m .done) xs, z, flatT-append) (sym (over-append (flatT (meshTriangles o 0 (m .done))) (flatT (meshTriangles o (d .vertices) xs)) t0 ht));
           count = omega (arith, e .count, m .count, count-append o (m .done) xs);
           faces = rw (triangles-append o 0 (m .done) xs, z, length-append) (omega (arith, e .faces, m .faces));
         }
 
-  pub drawing-all : length vs ≤ i → (v ≡ over (verticesOf o (runsFrom 0 vs ps)) v0) × (t ≡ over (flatT (trianglesOf o 0 (runsFrom 0 vs ps))) t0)
+  pub drawing-all : length vs ≤ i → (v ≡ over (meshVertices o (runsFrom 0 vs ps)) v0) × (t ≡ over (flatT (meshTriangles o 0 (runsFrom 0 vs ps))) t0)
   drawing-all h =
       let e = pass-all vs ps i g (m .done) (m .passing) h in
-      (m .vertices ∙ ap (λ (l : List (Run Endpoint)). over (verticesOf o l) v0) e, m .triangles ∙ ap (λ (l : List (Run Endpoint)). over (flatT (trianglesOf o 0 l)) t0) e)
+      (m .vertices ∙ ap (λ (l : List (Run Endpoint)). over (meshVertices o l) v0) e, m .triangles ∙ ap (λ (l : List (Run Endpoint)). over (flatT (meshTriangles o 0 l)) t0) e)

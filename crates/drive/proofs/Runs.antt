@@ -20,41 +20,41 @@ use Rattle.run.proofs.Facts.{run-within, run-anywhere}
 use Rattle.run.proofs.Whole.{length-shape}
 use Rattle.count.specs.Count.{countOf}
 use Rattle.count.specs.declared.Count.{Count}
-use Rattle.drive.specs.Runs.{drawnOf, verticesOf, vertexCount, trianglesOf, edgesOf, countsOf}
+use Rattle.drive.specs.Runs.{drawnOf, meshVertices, meshCount, meshTriangles, meshEdges, meshCounts}
 use Rattle.drive.specs.Passes.{bothOf, countBehind}
 
 module _ (o : Stroke) where
-  pub vertices-append : (xs ys : List (Run Endpoint)) → verticesOf o (xs ++ ys) ≡ verticesOf o xs ++ verticesOf o ys
-  unfolding verticesOf
+  pub vertices-append : (xs ys : List (Run Endpoint)) → meshVertices o (xs ++ ys) ≡ meshVertices o xs ++ meshVertices o ys
+  unfolding meshVertices
   vertices-append [] ys = refl
   vertices-append (x ∷ xs) ys = rw (vertices-append xs ys, append-assoc)
 
-  pub count-append : (xs ys : List (Run Endpoint)) → vertexCount o (xs ++ ys) ≡ vertexCount o xs + vertexCount o ys
-  unfolding vertexCount
+  pub count-append : (xs ys : List (Run Endpoint)) → meshCount o (xs ++ ys) ≡ meshCount o xs + meshCount o ys
+  unfolding meshCount
   count-append [] ys = omega arith
   count-append (x ∷ xs) ys = omega (arith, count-append xs ys)
 
-  pub triangles-append : (k : ℕ) (xs ys : List (Run Endpoint)) → trianglesOf o k (xs ++ ys) ≡ trianglesOf o k xs ++ trianglesOf o (k + vertexCount o xs) ys
-  unfolding trianglesOf vertexCount
+  pub triangles-append : (k : ℕ) (xs ys : List (Run Endpoint)) → meshTriangles o k (xs ++ ys) ≡ meshTriangles o k xs ++ meshTriangles o (k + meshCount o xs) ys
+  unfolding meshTriangles meshCount
   triangles-append k [] ys = let n : k + 0 ≡ k = omega arith in rw n
   triangles-append k (x ∷ xs) ys =
-      let n : k + (shapeCount (drawnOf o x) + vertexCount o xs) ≡ k + shapeCount (drawnOf o x) + vertexCount o xs = omega arith in
+      let n : k + (shapeCount (drawnOf o x) + meshCount o xs) ≡ k + shapeCount (drawnOf o x) + meshCount o xs = omega arith in
       rw (n, triangles-append (k + shapeCount (drawnOf o x)) xs ys, append-assoc)
 
-  edges-append : (xs ys : List (Run Endpoint)) → edgesOf o (xs ++ ys) ≡ edgesOf o xs ++ edgesOf o ys
-  unfolding edgesOf
+  edges-append : (xs ys : List (Run Endpoint)) → meshEdges o (xs ++ ys) ≡ meshEdges o xs ++ meshEdges o ys
+  unfolding meshEdges
   edges-append [] ys = refl
   edges-append (x ∷ xs) ys = rw (edges-append xs ys, append-assoc)
 
   -- five floats to a vertex
-  pub length-vertices : (rs : List (Run Endpoint)) → length (verticesOf o rs) ≡ 5 * vertexCount o rs
-  unfolding verticesOf vertexCount
+  pub length-vertices : (rs : List (Run Endpoint)) → length (meshVertices o rs) ≡ 5 * meshCount o rs
+  unfolding meshVertices meshCount
   length-vertices [] = refl
   length-vertices (r ∷ rs) = rw (length-append, length-shape, length-vertices rs) (omega arith)
 
   -- how many triangles there are does not hang on the number that the vertices begin with
-  pub triangles-anywhere : (k : ℕ) (rs : List (Run Endpoint)) → length (trianglesOf o k rs) ≡ length (trianglesOf o 0 rs)
-  unfolding trianglesOf
+  pub triangles-anywhere : (k : ℕ) (rs : List (Run Endpoint)) → length (meshTriangles o k rs) ≡ length (meshTriangles o 0 rs)
+  unfolding meshTriangles
   triangles-anywhere k [] = refl
   triangles-anywhere k (r ∷ rs) =
       let s = drawnOf o r in
@@ -87,21 +87,21 @@ module _ (o : Stroke) where
   same : (a b : Count) → a .vertices ≡ b .vertices → a .triangles ≡ b .triangles → a .legs ≡ b .legs → a .short ≡ b .short → a ≡ b
   same a b e f g h = rw (e, f, g, h)
 
-  pub one-is : (r : Run Endpoint) → countOf o (r .closed) (r .points) ≡ countsOf o (r ∷ [])
-  unfolding countOf shapeOf vertexCount trianglesOf edgesOf
+  pub one-is : (r : Run Endpoint) → countOf o (r .closed) (r .points) ≡ meshCounts o (r ∷ [])
+  unfolding countOf shapeOf meshCount meshTriangles meshEdges
   one-is r = rw (append-nil, append-nil) (same _ _ (omega arith) refl refl refl)
 
-  counts-append : (xs ys : List (Run Endpoint)) → bothOf (countsOf o xs) (countsOf o ys) ≡ countsOf o (xs ++ ys)
+  counts-append : (xs ys : List (Run Endpoint)) → bothOf (meshCounts o xs) (meshCounts o ys) ≡ meshCounts o (xs ++ ys)
   unfolding bothOf
   counts-append xs ys =
-      let k = 0 + vertexCount o xs in
+      let k = 0 + meshCount o xs in
       same _ _
       (sym (count-append o xs ys))
-      (sym (ap length (triangles-append o 0 xs ys) ∙ length-append (trianglesOf o 0 xs) (trianglesOf o k ys) ∙ omega (arith, triangles-anywhere o k ys)))
-      (sym (ap length (edges-append o xs ys) ∙ length-append (edgesOf o xs) (edgesOf o ys)))
-      (sym (ap firstShort (edges-append o xs ys) ∙ short-append (edgesOf o xs) (edgesOf o ys)))
+      (sym (ap length (triangles-append o 0 xs ys) ∙ length-append (meshTriangles o 0 xs) (meshTriangles o k ys) ∙ omega (arith, triangles-anywhere o k ys)))
+      (sym (ap length (edges-append o xs ys) ∙ length-append (meshEdges o xs) (meshEdges o ys)))
+      (sym (ap firstShort (edges-append o xs ys) ∙ short-append (meshEdges o xs) (meshEdges o ys)))
 
-  pub counts-behind : (xs ys : List (Run Endpoint)) → countBehind o (countsOf o xs) ys ≡ countsOf o (xs ++ ys)
+  pub counts-behind : (xs ys : List (Run Endpoint)) → countBehind o (meshCounts o xs) ys ≡ meshCounts o (xs ++ ys)
   unfolding countBehind
   counts-behind xs [] = rw (append-nil xs)
   counts-behind xs (y ∷ ys) = rw (one-is y, counts-append xs (y ∷ [])) (counts-behind (xs ++ y ∷ []) ys ∙ rw (append-assoc xs (y ∷ []) ys))
@@ -113,8 +113,8 @@ pub record Bounded (n : ℕ) (c : Count) : Type 0 where
   pub legs : c .legs ≤ n
   pub short : c .short ≤ c .legs
 
-pub runs-bounded : (o : Stroke) (rs : List (Run Endpoint)) → Bounded (length (pointsOf rs)) (countsOf o rs)
-unfolding vertexCount trianglesOf edgesOf pointsOf
+pub runs-bounded : (o : Stroke) (rs : List (Run Endpoint)) → Bounded (length (pointsOf rs)) (meshCounts o rs)
+unfolding meshCount meshTriangles meshEdges pointsOf
 runs-bounded o [] = record { vertices = omega arith; triangles = omega arith; legs = omega arith; short = short-few [] }
 runs-bounded o (r ∷ rs) =
     let b = runs-bounded o rs in
@@ -125,5 +125,5 @@ runs-bounded o (r ∷ rs) =
       vertices = simp length-append (omega (arith, b .vertices, w .vertices));
       triangles = simp length-append (omega (arith, b .triangles, w .triangles, triangles-anywhere o k rs));
       legs = simp length-append (omega (arith, b .legs, legs-length (r .closed) (o .«half_width») (keptPoints (r .closed) (r .points)), kept-few (r .closed) (r .points)));
-      short = short-few (ls ++ edgesOf o rs);
+      short = short-few (ls ++ meshEdges o rs);
     }

@@ -15,7 +15,7 @@ use Rattle.strip.specs.Triangle.{flatT}
 use Rattle.run.specs.declared.draw.Drawn.{Drawn}
 use Rattle.count.specs.Count.{countOf}
 use Rattle.count.specs.declared.Count.{Count}
-use Rattle.drive.specs.Runs.{verticesOf, vertexCount, trianglesOf}
+use Rattle.drive.specs.Runs.{meshVertices, meshCount, meshTriangles}
 use Rattle.drive.specs.declared.cursor.Cursor.{Cursor}
 
 -- a path whose verbs name as many points as it has, within the limits of an accepted one
@@ -56,14 +56,14 @@ undrawn = record { vertices = 0; triangles = 0 }
 
 -- v and t have room for the runs rs behind what is drawn
 pub record Has (o : Stroke) (d : Drawn) (rs : List (Run Endpoint)) (v : List Float) (t : List ℕ) : Type 0 where
-  pub numbers : d .vertices + vertexCount o rs < 65536
-  pub vertices : 5 * (d .vertices + vertexCount o rs) ≤ length v
-  pub triangles : 3 * (d .triangles + length (trianglesOf o (d .vertices) rs)) ≤ length t
-  pub faces : d .triangles + length (trianglesOf o (d .vertices) rs) < 65536
+  pub numbers : d .vertices + meshCount o rs < 65536
+  pub vertices : 5 * (d .vertices + meshCount o rs) ≤ length v
+  pub triangles : 3 * (d .triangles + length (meshTriangles o (d .vertices) rs)) ≤ length t
+  pub faces : d .triangles + length (meshTriangles o (d .vertices) rs) < 65536
 
 -- they are drawn there
 pub record Puts (o : Stroke) (d : Drawn) (rs : List (Run Endpoint)) (v v' : List Float) (t t' : List ℕ) (r : Drawn) : Type 0 where
-  pub vertices : v' ≡ take (5 * d .vertices) v ++ over (verticesOf o rs) (drop (5 * d .vertices) v)
-  pub triangles : t' ≡ take (3 * d .triangles) t ++ over (flatT (trianglesOf o (d .vertices) rs)) (drop (3 * d .triangles) t)
-  pub count : r .vertices ≡ d .vertices + vertexCount o rs
-  pub faces : r .triangles ≡ d .triangles + length (trianglesOf o (d .vertices) rs)
+  pub vertices : v' ≡ take (5 * d .vertices) v ++ over (meshVertices o rs) (drop (5 * d .vertices) v)
+  pub triangles : t' ≡ take (3 * d .triangles) t ++ over (flatT (meshTriangles o (d .vertices) rs)) (drop (3 * d .triangles) t)
+  pub count : r .vertices ≡ d .vertices + meshCount o rs
+  pub faces : r .triangles ≡ d .triangles + length (meshTriangles o (d .vertices) rs)

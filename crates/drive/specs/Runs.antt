@@ -23,24 +23,24 @@ abbrev pub drawnOf : Stroke → Run Endpoint → Shape
 drawnOf o r = shapeOf o (r .closed) (r .points)
 
 -- rule 8: the vertices, five floats each
-unfoldable pub verticesOf : Stroke → List (Run Endpoint) → List Float
-verticesOf o [] = []
-verticesOf o (r ∷ rs) = shapeVertices o (drawnOf o r) ++ verticesOf o rs
+unfoldable pub meshVertices : Stroke → List (Run Endpoint) → List Float
+meshVertices o [] = []
+meshVertices o (r ∷ rs) = shapeVertices o (drawnOf o r) ++ meshVertices o rs
 
-unfoldable pub vertexCount : Stroke → List (Run Endpoint) → ℕ
-vertexCount o [] = 0
-vertexCount o (r ∷ rs) = shapeCount (drawnOf o r) + vertexCount o rs
+unfoldable pub meshCount : Stroke → List (Run Endpoint) → ℕ
+meshCount o [] = 0
+meshCount o (r ∷ rs) = shapeCount (drawnOf o r) + meshCount o rs
 
 -- rule 9: "Vertex numbers go on over all runs, and each run is written to the part of the lists that begins where the last run ended."
-unfoldable pub trianglesOf : Stroke → ℕ → List (Run Endpoint) → List Tri
-trianglesOf o k [] = []
-trianglesOf o k (r ∷ rs) = shapeTriangles (r .closed) k (drawnOf o r) ++ trianglesOf o (k + shapeCount (drawnOf o r)) rs
+unfoldable pub meshTriangles : Stroke → ℕ → List (Run Endpoint) → List Tri
+meshTriangles o k [] = []
+meshTriangles o k (r ∷ rs) = shapeTriangles (r .closed) k (drawnOf o r) ++ meshTriangles o (k + shapeCount (drawnOf o r)) rs
 
 -- "the kept edges of all runs, closing ones included"
-unfoldable pub edgesOf : Stroke → List (Run Endpoint) → List Leg
-edgesOf o [] = []
-edgesOf o (r ∷ rs) = legsOf (r .closed) (o .«half_width») (keptPoints (r .closed) (r .points)) ++ edgesOf o rs
+unfoldable pub meshEdges : Stroke → List (Run Endpoint) → List Leg
+meshEdges o [] = []
+meshEdges o (r ∷ rs) = legsOf (r .closed) (o .«half_width») (keptPoints (r .closed) (r .points)) ++ meshEdges o rs
 
 -- how many of each there are, and the first short edge
-abbrev pub countsOf : Stroke → List (Run Endpoint) → Count
-countsOf o rs = record { vertices = vertexCount o rs; triangles = length (trianglesOf o 0 rs); legs = length (edgesOf o rs); short = firstShort (edgesOf o rs) }
+abbrev pub meshCounts : Stroke → List (Run Endpoint) → Count
+meshCounts o rs = record { vertices = meshCount o rs; triangles = length (meshTriangles o 0 rs); legs = length (meshEdges o rs); short = firstShort (meshEdges o rs) }

@@ -10,7 +10,7 @@ use path::verbs::END_CLOSED;
 use path::verbs::names_point;
 ghost use mathlib.Core.Path.{_≡_};
 ghost use Rattle.points.specs.Points.{endpointsOf};
-ghost use Rattle.drive.specs.Runs.{runsOf, countsOf};
+ghost use Rattle.drive.specs.Runs.{runsOf, meshCounts};
 ghost use Rattle.drive.specs.Cursor.{endedOf};
 ghost use Rattle.drive.specs.Passes.{Paired, Inside, Small, bothOf, countBehind};
 
@@ -47,7 +47,7 @@ fn count_verb(o: Stroke, coords: &[f32], g: Cursor, verb: u8, c: Count) -> Count
 
 pub fn count_runs(o: Stroke, verbs: &[u8], coords: &[f32]) -> Count
     requires { ⌜ Paired (now verbs) (now coords) ⌝ }
-    ensures { λ r. ⌜ r ≡ countsOf o (runsOf (now (verbs .entry)) (now (coords .entry))) ⌝ }
+    ensures { λ r. ⌜ r ≡ meshCounts o (runsOf (now (verbs .entry)) (now (coords .entry))) ⌝ }
 {
     let mut c = nothing();
     let mut g = start();

@@ -11,7 +11,7 @@ ghost use mathlib.Core.Path.{_≡_};
 ghost use Rattle.lists.specs.Over.{over};
 ghost use Rattle.points.specs.Points.{endpointsOf};
 ghost use Rattle.strip.specs.Triangle.{flatT};
-ghost use Rattle.drive.specs.Runs.{runsOf, verticesOf, trianglesOf};
+ghost use Rattle.drive.specs.Runs.{runsOf, meshVertices, meshTriangles};
 ghost use Rattle.drive.specs.Cursor.{endedOf};
 ghost use Rattle.drive.specs.Passes.{Paired, Inside, Has, Puts, undrawn};
 
@@ -56,8 +56,8 @@ fn draw_verb(
 pub fn draw_runs(v: &mut [f32], t: &mut [u16], o: Stroke, verbs: &[u8], coords: &[f32])
     requires { ⌜ Paired (now verbs) (now coords) ⌝ }
     requires { ⌜ Has o undrawn (runsOf (now verbs) (now coords)) (now v) (now t) ⌝ }
-    ensures { λ _. ⌜ now (v .exit) ≡ over (verticesOf o (runsOf (now (verbs .entry)) (now (coords .entry)))) (now (v .entry)) ⌝ }
-    ensures { λ _. ⌜ now (t .exit) ≡ over (flatT (trianglesOf o 0 (runsOf (now (verbs .entry)) (now (coords .entry))))) (now (t .entry)) ⌝ }
+    ensures { λ _. ⌜ now (v .exit) ≡ over (meshVertices o (runsOf (now (verbs .entry)) (now (coords .entry)))) (now (v .entry)) ⌝ }
+    ensures { λ _. ⌜ now (t .exit) ≡ over (flatT (meshTriangles o 0 (runsOf (now (verbs .entry)) (now (coords .entry))))) (now (t .entry)) ⌝ }
 {
     let mut d = Drawn {
         vertices: 0,

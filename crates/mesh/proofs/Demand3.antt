@@ -24,7 +24,7 @@ use Rattle.strip.specs.Triangle.{flatT}
 use Rattle.strip.proofs.Triangles.{length-flatT}
 use Rattle.run.specs.Run.{shapeCount}
 use Rattle.run.proofs.Facts.{run-covers, run-numbers}
-use Rattle.drive.specs.Runs.{runsOf, drawnOf, verticesOf, vertexCount, trianglesOf, edgesOf, countsOf}
+use Rattle.drive.specs.Runs.{runsOf, drawnOf, meshVertices, meshCount, meshTriangles, meshEdges, meshCounts}
 use Rattle.drive.proofs.Runs.{length-vertices}
 use Rattle.mesh.specs.Answer.{judgedOf}
 use Rattle.mesh.specs.Demand3.{Earns, RunStands, AllStand, Written, Rooms, Demand3}
@@ -38,45 +38,45 @@ all-stand o k (r ∷ rs) =
     (record { counts = run-numbers o (r .closed) k (r .points); covers = run-covers o (r .closed) k (r .points) }, all-stand o (k + shapeCount (drawnOf o r)) rs)
 
 -- ---- rooms, of an accepted path
-module _ (o : Stroke) (rs : List (Run Endpoint)) (v : List Float) (t : List ℕ) (e : firstShort (edgesOf o rs) ≡ length (edgesOf o rs)) where
-  none-short : length (edgesOf o rs) ≤ firstShort (edgesOf o rs)
+module _ (o : Stroke) (rs : List (Run Endpoint)) (v : List Float) (t : List ℕ) (e : firstShort (meshEdges o rs) ≡ length (meshEdges o rs)) where
+  none-short : length (meshEdges o rs) ≤ firstShort (meshEdges o rs)
   none-short = omega (arith, e)
 
-  no-vertices : length v < 5 * vertexCount o rs → acceptedOf v t o rs ≡ refused v t (VertexRoom (vertexCount o rs) (length (trianglesOf o 0 rs)))
+  no-vertices : length v < 5 * meshCount o rs → acceptedOf v t o rs ≡ refused v t (VertexRoom (meshCount o rs) (length (meshTriangles o 0 rs)))
   unfolding acceptedOf judgedOf
   no-vertices h =
-      let a : length v / 5 < vertexCount o rs = omega arith in
-      rw (le-ltb _ _ none-short, lt-ltb (length v / 5) (vertexCount o rs) a)
+      let a : length v / 5 < meshCount o rs = omega arith in
+      rw (le-ltb _ _ none-short, lt-ltb (length v / 5) (meshCount o rs) a)
 
-  no-triangles : 5 * vertexCount o rs ≤ length v → length t < 3 * length (trianglesOf o 0 rs)
-      → acceptedOf v t o rs ≡ refused v t (TriangleRoom (vertexCount o rs) (length (trianglesOf o 0 rs)))
+  no-triangles : 5 * meshCount o rs ≤ length v → length t < 3 * length (meshTriangles o 0 rs)
+      → acceptedOf v t o rs ≡ refused v t (TriangleRoom (meshCount o rs) (length (meshTriangles o 0 rs)))
   unfolding acceptedOf judgedOf
   no-triangles h g =
-      let a : vertexCount o rs ≤ length v / 5 = omega arith in
-      let b : length t / 3 < length (trianglesOf o 0 rs) = omega arith in
-      rw (le-ltb _ _ none-short, le-ltb (length v / 5) (vertexCount o rs) a, lt-ltb (length t / 3) (length (trianglesOf o 0 rs)) b)
+      let a : meshCount o rs ≤ length v / 5 = omega arith in
+      let b : length t / 3 < length (meshTriangles o 0 rs) = omega arith in
+      rw (le-ltb _ _ none-short, le-ltb (length v / 5) (meshCount o rs) a, lt-ltb (length t / 3) (length (meshTriangles o 0 rs)) b)
 
   abbrev whole : Outcome
-  whole = record { answer = Mesh (vertexCount o rs) (length (trianglesOf o 0 rs)); vertices = over (verticesOf o rs) v; triangles = over (flatT (trianglesOf o 0 rs)) t }
+  whole = record { answer = Mesh (meshCount o rs) (length (meshTriangles o 0 rs)); vertices = over (meshVertices o rs) v; triangles = over (flatT (meshTriangles o 0 rs)) t }
 
-  module _ (h : 5 * vertexCount o rs ≤ length v) (g : 3 * length (trianglesOf o 0 rs) ≤ length t) where
+  module _ (h : 5 * meshCount o rs ≤ length v) (g : 3 * length (meshTriangles o 0 rs) ≤ length t) where
     is-whole : acceptedOf v t o rs ≡ whole
     unfolding acceptedOf judgedOf
     is-whole =
-        let a : vertexCount o rs ≤ length v / 5 = omega arith in
-        let b : length (trianglesOf o 0 rs) ≤ length t / 3 = omega arith in
-        rw (le-ltb _ _ none-short, le-ltb (length v / 5) (vertexCount o rs) a, le-ltb (length t / 3) (length (trianglesOf o 0 rs)) b)
+        let a : meshCount o rs ≤ length v / 5 = omega arith in
+        let b : length (meshTriangles o 0 rs) ≤ length t / 3 = omega arith in
+        rw (le-ltb _ _ none-short, le-ltb (length v / 5) (meshCount o rs) a, le-ltb (length t / 3) (length (meshTriangles o 0 rs)) b)
 
     all-written : Written o rs v t whole
     all-written =
         let lv = length-vertices o rs in
-        let lt = length-flatT (trianglesOf o 0 rs) in
+        let lt = length-flatT (meshTriangles o 0 rs) in
         record {
           answer = refl;
-          vertices = rw (← lv) (take-over (verticesOf o rs) v (omega arith));
-          triangles = rw (← lt) (take-over (flatT (trianglesOf o 0 rs)) t (omega arith));
-          vertices-behind = rw (← lv) (drop-over (verticesOf o rs) v);
-          triangles-behind = rw (← lt) (drop-over (flatT (trianglesOf o 0 rs)) t);
+          vertices = rw (← lv) (take-over (meshVertices o rs) v (omega arith));
+          triangles = rw (← lt) (take-over (flatT (meshTriangles o 0 rs)) t (omega arith));
+          vertices-behind = rw (← lv) (drop-over (meshVertices o rs) v);
+          triangles-behind = rw (← lt) (drop-over (flatT (meshTriangles o 0 rs)) t);
         }
 
   rooms-decide : Rooms o rs v t (acceptedOf v t o rs)

@@ -21,7 +21,7 @@ use Rattle.points.proofs.Indexed.{points-length}
 use Rattle.strip.specs.Triangle.{flatT}
 use Rattle.count.specs.declared.Count.{Count}
 use Rattle.drive.specs.Passes.{Paired, undrawn, Has}
-use Rattle.drive.specs.Runs.{runsOf, verticesOf, vertexCount, trianglesOf, countsOf}
+use Rattle.drive.specs.Runs.{runsOf, meshVertices, meshCount, meshTriangles, meshCounts}
 use Rattle.drive.proofs.Runs.{runs-bounded}
 use Rattle.mesh.specs.Answer.{isMesh, judgedOf}
 use Rattle.mesh.specs.Mesh.{roomFor, drawn, acceptedOf}
@@ -45,12 +45,12 @@ runs-points n (v ∷ vs) ps = go (names v) (runs-points (n + 1) vs ps) (runs-poi
 
 -- "Counts' bounds": four vertices to a point, so that a u16 holds every number
 module _ (o : Stroke) (vs : List ℕ) (cs : List Float) (s : Sound vs cs) where
-  few-vertices : vertexCount o (runsOf vs cs) ≤ 16384
+  few-vertices : meshCount o (runsOf vs cs) ≤ 16384
   few-vertices =
       let b = runs-bounded o (runsOf vs cs) in
       omega (arith, b .vertices, runs-points 0 vs (endpointsOf 0 cs), points-length cs 0, sound-paired vs cs s .few)
 
-  few-triangles : length (trianglesOf o 0 (runsOf vs cs)) ≤ 16384
+  few-triangles : length (meshTriangles o 0 (runsOf vs cs)) ≤ 16384
   few-triangles = let b = runs-bounded o (runsOf vs cs) in omega (arith, b .triangles, few-vertices)
 
 -- it is a mesh only where there is room for both
@@ -69,14 +69,14 @@ judged-room c nv nt e = go (ltb (c .short) (c .legs)) (ltb nv (c .vertices)) ref
 module _ (o : Stroke) (vs : List ℕ) (cs : List Float) (s : Sound vs cs) (v : List Float) (t : List ℕ) where
   pub mesh-has : isMesh (roomFor v t o (runsOf vs cs)) ≡ true → Has o undrawn (runsOf vs cs) v t
   mesh-has e =
-      let r = judged-room (countsOf o (runsOf vs cs)) (length v / 5) (length t / 3) e in
+      let r = judged-room (meshCounts o (runsOf vs cs)) (length v / 5) (length t / 3) e in
       let n = few-vertices o vs cs s in
       let m = few-triangles o vs cs s in
       record { numbers = omega arith; vertices = omega (arith, r .0); triangles = omega (arith, r .1); faces = omega arith }
 
 -- what is left in the lists
 module _ (o : Stroke) (rs : List (Run Endpoint)) (v : List Float) (t : List ℕ) where
-  pub is-drawn : (v' : List Float) (t' : List ℕ) → isMesh (roomFor v t o rs) ≡ true → v' ≡ over (verticesOf o rs) v → t' ≡ over (flatT (trianglesOf o 0 rs)) t
+  pub is-drawn : (v' : List Float) (t' : List ℕ) → isMesh (roomFor v t o rs) ≡ true → v' ≡ over (meshVertices o rs) v → t' ≡ over (flatT (meshTriangles o 0 rs)) t
       → record { answer = roomFor v t o rs; vertices = v'; triangles = t' } ≡ acceptedOf v t o rs
   unfolding acceptedOf
   is-drawn v' t' e f g = rw (e, f, g)

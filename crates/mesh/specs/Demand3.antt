@@ -20,7 +20,7 @@ use Rattle.strip.specs.Facts.{pairSides}
 use Rattle.strip.specs.Triangle.{flatT}
 use Rattle.run.specs.Facts.{Numbers, Covers}
 use Rattle.run.specs.Run.{shapeCount, shapeTriangles}
-use Rattle.drive.specs.Runs.{runsOf, drawnOf, verticesOf, vertexCount, trianglesOf, edgesOf}
+use Rattle.drive.specs.Runs.{runsOf, drawnOf, meshVertices, meshCount, meshTriangles, meshEdges}
 use Rattle.mesh.specs.Mesh.{Outcome, refused, outcomeOf}
 use Rattle.mesh.specs.declared.answer.Meshed.the-variants.{Mesh, VertexRoom, TriangleRoom}
 
@@ -28,7 +28,7 @@ use Rattle.mesh.specs.declared.answer.Meshed.the-variants.{Mesh, VertexR
 pub record Earns (verbs : List ℕ) (coords : List Float) (options : Options) (o : Stroke) : Type 0 where
   pub within : strokeOf options ≡ stroke.Stroke o
   pub accepted : checkedOf verbs coords ≡ Accepted
-  pub long : firstShort (edgesOf o (runsOf verbs coords)) ≡ length (edgesOf o (runsOf verbs coords))
+  pub long : firstShort (meshEdges o (runsOf verbs coords)) ≡ length (meshEdges o (runsOf verbs coords))
 
 -- "Counts follow from the join rules alone": n points kept and d pair sides; "each triangle names three different vertices of its run, every vertex is
 -- named, each triangle but a run's first shares exactly two vertices with the one before." A run whose vertices are numbered from k.
@@ -44,18 +44,18 @@ AllStand o k (r ∷ rs) = RunStands o k r × AllStand o (k + shapeCount (drawnOf
 
 -- what a call leaves where there is room: the answer 0 with both counts, "exactly so many are written", and nothing behind them
 pub record Written (o : Stroke) (rs : List (Run Endpoint)) (v : List Float) (t : List ℕ) (out : Outcome) : Type 0 where
-  pub answer : out .answer ≡ Mesh (vertexCount o rs) (length (trianglesOf o 0 rs))
-  pub vertices : take (5 * vertexCount o rs) (out .vertices) ≡ verticesOf o rs
-  pub triangles : take (3 * length (trianglesOf o 0 rs)) (out .triangles) ≡ flatT (trianglesOf o 0 rs)
-  pub vertices-behind : drop (5 * vertexCount o rs) (out .vertices) ≡ drop (5 * vertexCount o rs) v
-  pub triangles-behind : drop (3 * length (trianglesOf o 0 rs)) (out .triangles) ≡ drop (3 * length (trianglesOf o 0 rs)) t
+  pub answer : out .answer ≡ Mesh (meshCount o rs) (length (meshTriangles o 0 rs))
+  pub vertices : take (5 * meshCount o rs) (out .vertices) ≡ meshVertices o rs
+  pub triangles : take (3 * length (meshTriangles o 0 rs)) (out .triangles) ≡ flatT (meshTriangles o 0 rs)
+  pub vertices-behind : drop (5 * meshCount o rs) (out .vertices) ≡ drop (5 * meshCount o rs) v
+  pub triangles-behind : drop (3 * length (meshTriangles o 0 rs)) (out .triangles) ≡ drop (3 * length (meshTriangles o 0 rs)) t
 
 -- "refused for want of room exactly when a list is too short for the numbers, and the refusal states both; otherwise exactly so many are written"
 pub record Rooms (o : Stroke) (rs : List (Run Endpoint)) (v : List Float) (t : List ℕ) (out : Outcome) : Type 0 where
-  pub few-vertices : length v < 5 * vertexCount o rs → out ≡ refused v t (VertexRoom (vertexCount o rs) (length (trianglesOf o 0 rs)))
-  pub few-triangles : 5 * vertexCount o rs ≤ length v → length t < 3 * length (trianglesOf o 0 rs)
-      → out ≡ refused v t (TriangleRoom (vertexCount o rs) (length (trianglesOf o 0 rs)))
-  pub enough : 5 * vertexCount o rs ≤ length v → 3 * length (trianglesOf o 0 rs) ≤ length t → Written o rs v t out
+  pub few-vertices : length v < 5 * meshCount o rs → out ≡ refused v t (VertexRoom (meshCount o rs) (length (meshTriangles o 0 rs)))
+  pub few-triangles : 5 * meshCount o rs ≤ length v → length t < 3 * length (meshTriangles o 0 rs)
+      → out ≡ refused v t (TriangleRoom (meshCount o rs) (length (meshTriangles o 0 rs)))
+  pub enough : 5 * meshCount o rs ≤ length v → 3 * length (meshTriangles o 0 rs) ≤ length t → Written o rs v t out
 
 pub record Demand3 (verbs : List ℕ) (coords : List Float) (options : Options) (o : Stroke) (v : List Float) (t : List ℕ) : Type 0 where
   -- the runs are the whole path, in order

@@ -16,7 +16,7 @@ use Rattle.path.specs.declared.options.Stroke.{Stroke}
 use Rattle.path.specs.declared.options.StrokeAnswer.{StrokeAnswer}
 use Rattle.path.specs.declared.options.StrokeAnswer.the-variants as stroke
 use Rattle.strip.specs.Triangle.{flatT}
-use Rattle.drive.specs.Runs.{runsOf, verticesOf, trianglesOf, countsOf}
+use Rattle.drive.specs.Runs.{runsOf, meshVertices, meshTriangles, meshCounts}
 use Rattle.mesh.specs.Answer.{isMesh, judgedOf}
 use Rattle.mesh.specs.declared.answer.Meshed.{Meshed}
 use Rattle.mesh.specs.declared.answer.Meshed.the-variants.{OutOfRange, TooManyVerbs, Verb, Coordinate}
@@ -35,11 +35,11 @@ module _ (v : List Float) (t : List ℕ) where
 
   -- "Room is the list's length over 5 or 3, rounded down."
   abbrev pub roomFor : Stroke → List (Run Endpoint) → Meshed
-  roomFor o rs = judgedOf (countsOf o rs) (length v / 5) (length t / 3)
+  roomFor o rs = judgedOf (meshCounts o rs) (length v / 5) (length t / 3)
 
   -- "After 0, list places beyond those counted keep their contents."
   abbrev pub drawn : Stroke → List (Run Endpoint) → Outcome
-  drawn o rs = record { answer = roomFor o rs; vertices = over (verticesOf o rs) v; triangles = over (flatT (trianglesOf o 0 rs)) t }
+  drawn o rs = record { answer = roomFor o rs; vertices = over (meshVertices o rs) v; triangles = over (flatT (meshTriangles o 0 rs)) t }
 
   -- of an accepted path
   unfoldable pub acceptedOf : Stroke → List (Run Endpoint) → Outcome

@@ -1,0 +1,2 @@
+-- `Meshes` has the cases of the mesh call.
+pub mod Meshes
