@@ -44,14 +44,8 @@ struct JoinRead {
 }
 
 fn read_join(line: &[u8], place: Place) -> JoinRead {
-    let n = numbers::read(line, place);
+    let n = numbers::read_up_to(line, place, 2);
     let rest = n.rest;
-    if 2 < n.value {
-        return JoinRead {
-            line_join: LineJoin::Miter,
-            rest: Place::Lost,
-        };
-    }
     JoinRead {
         line_join: line_join_of(n.value),
         rest,

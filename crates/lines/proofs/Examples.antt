@@ -7,10 +7,12 @@ use mathlib.Core.Bool.{true, false}
 use mathlib.Core.List.{List, [], _∷_}
 use lib.IntN.{pos, negsuc}
 use lib.Ieee.{nan, inf, fin, ofBits, toBits, nanBits}
+use Rattle.lines.specs.Bytes.{pairsOf, isDash, arePairs, isHeld, bytesIn, bytesOf}
 use Rattle.lines.specs.Digits.{digitOf, areDigits, spelt, glyphOf, digitsOf, placesUpTo, decimalOf, hexOf}
 use Rattle.lines.specs.Floats.{floatBy, floatOf, floatHex}
 use Rattle.lines.specs.Numbers.{numberOf}
 use Rattle.lines.specs.Words.{upToSpace, wordAt, restAt}
+use Rattle.lines.specs.declared.bytes.Bytes.the-variants as count
 use Rattle.lines.specs.declared.floats.Float.the-variants as float
 use Rattle.lines.specs.declared.numbers.Number.the-variants as number
 use Rattle.lines.specs.declared.words.Place.the-variants.{At, End, Lost}
@@ -50,6 +52,18 @@ floats : (floatOf (bytes "3FC00000") ≡ float.Value (fin false 3 (negsuc 0)))
     × (floatOf (bytes "3FC0000") ≡ float.Bad)
 unfolding bytes digitOf areDigits spelt floatBy floatOf ofBits nanBits
 floats = (refl, refl, refl, refl, refl, refl, refl, refl)
+
+lists : (bytesOf 3 (bytes "0001FF") ≡ count.Count 3)
+    × (bytesIn 3 (bytes "0001FF") ≡ 0 ∷ 1 ∷ 255 ∷ [])
+    × (bytesOf 0 (bytes "-") ≡ count.Count 0)
+    × (bytesOf 2 (bytes "0001FF") ≡ count.Bad)
+    × (bytesOf 3 (bytes "0001F") ≡ count.Bad)
+    × (bytesOf 3 (bytes "0001ff") ≡ count.Bad)
+    × (bytesOf 3 (bytes "--") ≡ count.Bad)
+    × (bytesOf 3 [] ≡ count.Bad)
+    × (bytesIn 3 (bytes "0001F") ≡ [])
+unfolding bytes digitOf areDigits pairsOf isDash arePairs isHeld bytesIn bytesOf
+lists = (refl, refl, refl, refl, refl, refl, refl, refl, refl)
 
 printed : (decimalOf 0 ≡ bytes "0")
     × (decimalOf 10 ≡ bytes "10")

@@ -2,6 +2,7 @@
 use Prim.Native.Nat.{ℕ}
 use mathlib.Core.Bool.{Bool, true, false}
 use mathlib.Core.List.{List}
+use lib.Dec.{ltb}
 use lib.ListN.{length}
 use Rattle.lines.specs.Digits.{within, areDigits, spelt}
 use Rattle.lines.specs.Words.{wordAt, restAt}
@@ -31,3 +32,11 @@ numberThen Bad rest = record { value = 0; rest = Lost }
 -- the number at a place of a line
 unfoldable pub numberAt : List ℕ → Place → NumberRead
 numberAt line p = numberThen (numberOf (wordAt line p)) (restAt line p)
+
+abbrev pub pickRead : Bool → NumberRead → NumberRead → NumberRead
+pickRead true a b = a
+pickRead false a b = b
+
+-- a number that was read where a larger one than most is out of form
+unfoldable pub numberUpTo : ℕ → NumberRead → NumberRead
+numberUpTo most n = pickRead (ltb most (n .value)) (numberThen Bad (n .rest)) n

@@ -1,7 +1,7 @@
 // Digits in any base up to 16: `0` to `9`, then `A` to `F`.
 ghost use mathlib.Core.Path.{_≡_};
 ghost use Prim.Native.Nat.{_<_};
-ghost use Rattle.lines.specs.Digits.{digitOf, glyphOf};
+ghost use Rattle.lines.specs.Digits.{digitOf, areDigits, glyphOf};
 
 // What a byte is worth as a digit: 16 where it is none.
 pub(crate) fn digit(b: u8) -> u64
@@ -24,4 +24,18 @@ pub(crate) fn glyph(d: u64) -> u8
     } else {
         b'A' + (d - 10) as u8
     }
+}
+
+// Whether every byte of a word is a digit of the base.
+pub(crate) fn are_digits(word: &[u8], base: u64) -> bool
+    ensures { λ r. ⌜ r ≡ areDigits base (now (word .entry)) ⌝ }
+{
+    let mut i = 0;
+    while i < word.len() {
+        if base <= digit(word[i]) {
+            return false;
+        }
+        i += 1;
+    }
+    true
 }

@@ -1,4 +1,5 @@
-// Lines of text, as cases and answers are written: words, numbers, floats, and how these are printed.
+// Lines of text, as cases and answers are written: words, numbers, floats, byte lists, and how these are printed.
+pub mod bytes;
 mod digits;
 pub mod floats;
 pub mod numbers;

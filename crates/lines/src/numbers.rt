@@ -5,7 +5,7 @@ use crate::words::next_word;
 ghost use mathlib.Core.Path.{_≡_};
 ghost use Prim.Native.Nat.{_≤_};
 ghost use lib.ListN.{length};
-ghost use Rattle.lines.specs.Numbers.{speltIn, numberOf, numberAt};
+ghost use Rattle.lines.specs.Numbers.{speltIn, numberOf, numberAt, numberUpTo};
 
 pub enum Number {
     Value(u64),
@@ -32,6 +32,25 @@ pub fn read(line: &[u8], place: Place) -> NumberRead
             value: 0,
             rest: Place::Lost,
         },
+    }
+}
+
+// The number at a place of a line, where it is no larger than `most`; a larger one is out of form.
+pub fn read_up_to(line: &[u8], place: Place, most: u64) -> NumberRead
+    ensures { λ r. ⌜ r ≡ numberUpTo most (numberAt (now (line .entry)) place) ⌝ }
+    ensures { λ r. ⌜ r .value ≤ most ⌝ }
+{
+    let n = read(line, place);
+    let rest = n.rest;
+    if most < n.value {
+        return NumberRead {
+            value: 0,
+            rest: Place::Lost,
+        };
+    }
+    NumberRead {
+        value: n.value,
+        rest,
     }
 }
 

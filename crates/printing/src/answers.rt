@@ -16,12 +16,12 @@ pub fn bad_line(out: &mut Buffer, p: Printed) -> Printed {
 }
 
 // Prints what most answers begin with: the kind of case, and the number and the place of the answer.
-pub fn head(out: &mut Buffer, p: Printed, kind: &[u8], answer: u32, place: u32) -> Printed
+pub fn head(out: &mut Buffer, p: Printed, kind: &[u8], answer: u32, place: u64) -> Printed
     requires { ⌜ length (now kind) ≤ 32 ⌝ }
 {
     let named = text(out, p, kind);
     let numbered = number(out, named, answer as u64);
-    number(out, numbered, place as u64)
+    number(out, numbered, place)
 }
 
 // Prints a whole answer that has floats alone behind its head.
@@ -35,7 +35,7 @@ pub fn float_answer(
 ) -> Printed
     requires { ⌜ length (now kind) ≤ 32 ⌝ }
 {
-    let headed = head(out, p, kind, answer, place);
+    let headed = head(out, p, kind, answer, place as u64);
     let valued = float_row(out, headed, values);
     line_end(out, valued)
 }

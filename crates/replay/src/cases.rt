@@ -16,6 +16,7 @@ pub fn answer(line: &[u8], out: &mut Buffer, p: Printed) -> Printed {
     let end = word.end;
     let rest = word.rest;
     match kind_of(&line[start..end]) {
+        Kind::Mesh => mesh_case::answer(line, rest, out, p),
         Kind::Root => root_case::answer(line, rest, out, p),
         Kind::Normal => normal_case::answer(line, rest, out, p),
         Kind::Window => window_case::answer(line, rest, out, p),
@@ -26,6 +27,7 @@ pub fn answer(line: &[u8], out: &mut Buffer, p: Printed) -> Printed {
 }
 
 enum Kind {
+    Mesh,
     Root,
     Normal,
     Window,
@@ -35,6 +37,9 @@ enum Kind {
 }
 
 fn kind_of(word: &[u8]) -> Kind {
+    if check::same(word, b"mesh") {
+        return Kind::Mesh;
+    }
     if check::same(word, b"root") {
         return Kind::Root;
     }
