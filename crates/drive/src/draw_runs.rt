@@ -29,13 +29,13 @@ fn draw_verb(
     requires { ⌜ Has o d (endedOf g verb (endpointsOf 0 (now coords))) (now v) (now t) ⌝ }
     ensures { λ r. ⌜ Puts o d (endedOf g verb (endpointsOf 0 (now (coords .entry)))) (now (v .entry)) (now (v .exit)) (now (t .entry)) (now (t .exit)) r ⌝ }
 {
+    let n = d.vertices;
+    let m = d.triangles;
     if names_point(verb) {
         return d;
     }
     let from = 2 * g.from;
     let to = 2 * (g.from + g.size);
-    let n = d.vertices;
-    let m = d.triangles;
     let at = 5 * n;
     let on = 3 * m;
     let run = draw_run(
