@@ -1,2 +1,0 @@
--- `Meshes` has the cases of the mesh call.
-pub mod Meshes

@@ -1,1 +1,0 @@
-// Closed cases of document 01, computed by the checker over the definitions: no code.

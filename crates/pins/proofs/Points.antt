@@ -1,0 +1,164 @@
+-- Document 01's points, P1 to P10, and a few beside them, computed by the checker over the definitions: one statement over one list. Assumes nothing.
+use Prim.Native.Nat.{ℕ, _*_}
+use mathlib.Core.Path.{_≡_, refl}
+use mathlib.Core.Bool.{Bool, true, _&&_}
+use mathlib.Core.List.{List, [], _∷_, _++_, map}
+use lib.Count.{leadingZeros}
+use lib.Dec.{eqb}
+use lib.Ieee.{binary32, add, sub, mul, div, neg, lt, eq, le, ofBits, toBits}
+use lib.ListN.{replicate}
+use Rattle.plane.specs.F32.{f32}
+use Rattle.plane.specs.Normal.{normalOf, inDomain, computeNormalOf}
+use Rattle.endpoint.specs.Endpoint.{blankOf}
+use Rattle.endpoint.specs.declared.EndpointData.{EndpointData}
+use Rattle.window.specs.Answer.{gotOf}
+use Rattle.window.specs.Window.{lastThree, lastReplaced}
+use Rattle.root.specs.Compute.{rootAnswer, floorRoot, partsRoot, bitsRoot, rootOf}
+use Rattle.plane.specs.Vector.{point, plusOf, minusOf, timesOf, overOf, negatedOf, turnedOf, dotOf, crossOf, squareLengthOf, lengthOf, normalizeOf}
+use Rattle.endpoint.specs.Endpoint.{singleOf, pairOf}
+use Rattle.join.specs.Clip.{sideLineOf, unmovedOf, movedOf, clippedOf}
+use Rattle.join.specs.Corner.{cornerOf, overshootsOf, foldsOf}
+use Rattle.join.specs.Edge.{edgeSideOf, edgeOf}
+use Rattle.join.specs.Join.{exceededOf, clippedPairOf, concaveOf, hasPointOf, decideOf, joinSideOf}
+use Rattle.join.specs.Record.{innerJoinOf, withSideOf, joinSidePositionsOf, joinOf}
+use Rattle.vertices.specs.Base.{baseVertexOf, sideVerticesOf}
+use Rattle.vertices.specs.Cap.{capVertexOf, capPairOf, capVerticesOf}
+use Rattle.vertices.specs.Vertex.{vertexOf, triangleOf}
+use Rattle.path.specs.Coordinates.{coordinateIn, firstOutside}
+use Rattle.path.specs.Options.{within, lineJoinOf, inRange, clipOf, preparedOf, strokeOf}
+use Rattle.path.specs.Path.{malformed, checkedOf}
+use Rattle.path.specs.Runs.{runsFrom}
+use Rattle.path.specs.Verbs.{begin, line, endOpen, endClosed, names, placed, firstMisplaced, endsInside, named, pointCount}
+use Rattle.points.specs.Points.{endpointsOf}
+use Rattle.course.specs.Joint.{dataOf, jointOf, capOf, startCapOf, endCapOf, jointsFrom, jointsOf}
+use Rattle.course.specs.Kept.{nearOf, keptBehind, allNear, trimmed, keptPoints}
+use Rattle.course.specs.Leg.{legOf, nextLegOf, legsFrom, legsOf, shortOf, firstShort}
+use Rattle.strip.specs.Joint.{vertexCount, jointVerticesOf, verticesOf}
+use Rattle.strip.specs.Section.{sections}
+use Rattle.strip.specs.Triangle.{flatT, different, triOf, between, stripOf, through}
+use Rattle.run.specs.Run.{drawsCap, shapeOf, shapeCount, shapeVertices, shapeTriangles}
+use Rattle.drive.specs.Runs.{meshVertices, meshCount, meshTriangles, meshEdges}
+use Rattle.mesh.specs.Answer.{judgedOf, meshAnswerOf}
+use Rattle.mesh.specs.Mesh.{Outcome, acceptedOf, strokedOf, outcomeOf}
+use Rattle.lists.specs.Over.{over}
+use Rattle.path.specs.declared.options.Options.{Options}
+
+-- the patterns of width and miter limit, join and cap
+pub record Pen : Type 0 where
+  pub width : ℕ
+  pub limit : ℕ
+  pub join : ℕ
+  pub cap : ℕ
+
+-- width 2 and limit 4
+abbrev pen : ℕ → ℕ → Pen
+pen join cap = record { width = 0x40000000; limit = 0x40800000; join = join; cap = cap }
+
+abbrev optionsOf : Pen → Options
+optionsOf p = record { width = f32 (p .width); «miter_limit» = f32 (p .limit); «line_join» = p .join; cap = p .cap }
+
+-- the endpoint k, otherwise blank, for the window's cases
+abbrev numbered : ℕ → EndpointData
+numbered k = record {
+  position = blankOf .position;
+  «half_width» = blankOf .«half_width»;
+  advancement = blankOf .advancement;
+  «line_join» = blankOf .«line_join»;
+  id = record { 0 = k };
+  positive = blankOf .positive;
+  negative = blankOf .negative;
+  «fold_positive» = blankOf .«fold_positive»;
+  «fold_negative» = blankOf .«fold_negative»;
+  «inner_join» = blankOf .«inner_join»;
+}
+
+pub data Call : Type 0 where
+  push : ℕ → Call
+  replaceLast : ℕ → Call
+
+-- what a window that holds xs holds after the calls
+pub after : List EndpointData → List Call → List EndpointData
+after xs [] = xs
+after xs (push k ∷ cs) = after (lastThree (xs ++ (numbered k ∷ []))) cs
+after xs (replaceLast k ∷ cs) = after (lastReplaced xs (numbered k)) cs
+
+pub data Case : Type 0 where
+  -- verbs and the patterns of the coordinates; how many vertices and triangles there is room for; then the number, the place and both counts
+  mesh : Pen → List ℕ → List ℕ → ℕ → ℕ → ℕ → ℕ → ℕ → ℕ → Case
+  -- calls on a new window, and the endpoints that it then reads at 0, 1 and 2
+  window : List Call → ℕ → ℕ → ℕ → Case
+  -- a pattern, and the number and the pattern of its root
+  root : ℕ → ℕ → ℕ → Case
+  -- the patterns of two vectors, then the number and the patterns of the normal
+  normal : ℕ → ℕ → ℕ → ℕ → ℕ → ℕ → ℕ → Case
+
+reads : List EndpointData → ℕ → ℕ → Bool
+reads xs i k = eqb (gotOf xs i .endpoint .id .0) k
+
+says : Case → Bool
+says (mesh p vs cs nv nt number place n m) =
+    let a = meshAnswerOf (outcomeOf vs (map f32 cs) (optionsOf p) (replicate (5 * nv) (f32 0)) (replicate (3 * nt) 0) .answer) in
+    eqb (a .number) number && eqb (a .place) place && (eqb (a .vertices) n && eqb (a .triangles) m)
+says (window cs a b c) = let xs = after [] cs in reads xs 0 a && (reads xs 1 b && reads xs 2 c)
+says (root x number r) = let a = rootAnswer (f32 x) in eqb (a .number) number && eqb (toBits binary32 (a .value)) r
+says (normal x1 y1 x2 y2 number x y) =
+    let a = computeNormalOf (point (f32 x1) (f32 y1)) (point (f32 x2) (f32 y2)) in
+    eqb (a .number) number && (eqb (toBits binary32 (a .x)) x && eqb (toBits binary32 (a .y)) y)
+
+pub every : List Case → Bool
+every [] = true
+every (c ∷ cs) = says c && every cs
+
+pub cases : List Case
+cases =
+    -- P1: no verbs
+    mesh (pen 0 0) [] [] 0 0 0 0 0 0
+    -- P2: begin, end open, Square
+    ∷ mesh (pen 0 1) (begin ∷ endOpen ∷ []) (0 ∷ 0 ∷ []) 0 0 0 0 0 0
+    -- P3: begin, end closed: Square 4 and 2, Butt 0 and 0
+    ∷ mesh (pen 0 1) (begin ∷ endClosed ∷ []) (0 ∷ 0 ∷ []) 4 2 0 0 4 2 ∷ mesh (pen 0 0) (begin ∷ endClosed ∷ []) (0 ∷ 0 ∷ []) 0 0 0 0 0 0
+    -- P4: begin and line at (2,0), end open, Square: 4 and 2
+    ∷ mesh (pen 0 1) (begin ∷ line ∷ endOpen ∷ []) (0x40000000 ∷ 0 ∷ 0x40000000 ∷ 0 ∷ []) 4 2 0 0 4 2
+    -- P5: after pushes 1 to 5 the window reads 3, 4, 5; after replacing the last by 9: 3, 4, 9
+    ∷ window (push 1 ∷ push 2 ∷ push 3 ∷ push 4 ∷ push 5 ∷ []) 3 4 5 ∷ window (push 1 ∷ push 2 ∷ push 3 ∷ push 4 ∷ push 5 ∷ replaceLast 9 ∷ []) 3 4 9
+    -- P6: root of 4 is 2; root of 2 has bits 3FB504F3
+    ∷ root 0x40800000 0 0x40000000 ∷ root 0x40000000 0 0x3fb504f3
+    -- P7: line first: 3, place 0; begin only: 3, place 1
+    ∷ mesh (pen 0 0) (line ∷ []) (0 ∷ 0 ∷ []) 0 0 3 0 0 0 ∷ mesh (pen 0 0) (begin ∷ []) (0 ∷ 0 ∷ []) 0 0 3 1 0 0
+    -- P8: compute_normal of (1,0) twice is (-0, 1); of (1,0), (-1,0) is (0,0)
+    ∷ normal 0x3f800000 0 0x3f800000 0 0 0x80000000 0x3f800000 ∷ normal 0x3f800000 0 0xbf800000 0 0 0 0
+    -- P9: (0,1) to (2,1), Butt: 4 and 2; room for three vertices: 6; for four and one triangle: 7
+    ∷ mesh (pen 0 0) (begin ∷ line ∷ endOpen ∷ []) (0 ∷ 0x3f800000 ∷ 0x40000000 ∷ 0x3f800000 ∷ []) 4 2 0 0 4 2
+    ∷ mesh (pen 0 0) (begin ∷ line ∷ endOpen ∷ []) (0 ∷ 0x3f800000 ∷ 0x40000000 ∷ 0x3f800000 ∷ []) 3 2 6 0 4 2
+    ∷ mesh (pen 0 0) (begin ∷ line ∷ endOpen ∷ []) (0 ∷ 0x3f800000 ∷ 0x40000000 ∷ 0x3f800000 ∷ []) 4 1 7 0 4 2
+    -- P10: (0,0), (1/128,0): two points kept; (0,0), (1/256,0): one
+    ∷ mesh (pen 0 0) (begin ∷ line ∷ endOpen ∷ []) (0 ∷ 0 ∷ 0x3c000000 ∷ 0 ∷ []) 4 2 0 0 4 2
+    ∷ mesh (pen 0 0) (begin ∷ line ∷ endOpen ∷ []) (0 ∷ 0 ∷ 0x3b800000 ∷ 0 ∷ []) 0 0 0 0 0 0
+    -- an option, the verbs and a coordinate all wrong: 1; too many verbs: 2; the coordinate: 4
+    ∷ mesh (pen 3 0) (line ∷ []) (0x7fc00000 ∷ 0 ∷ []) 0 0 1 0 0 0 ∷ mesh (pen 0 0) (replicate 4097 line) [] 0 0 2 0 0 0
+    ∷ mesh (pen 0 0) (begin ∷ endOpen ∷ []) (0 ∷ 0x7fc00000 ∷ []) 0 0 4 1 0 0
+    -- (0,0), (100,0), (100,100), closed or open: Miter and Bevel
+    ∷ mesh (pen 0 0) (begin ∷ line ∷ line ∷ endOpen ∷ []) (0 ∷ 0 ∷ 0x42c80000 ∷ 0 ∷ 0x42c80000 ∷ 0x42c80000 ∷ []) 6 4 0 0 6 4
+    ∷ mesh (pen 2 0) (begin ∷ line ∷ line ∷ endOpen ∷ []) (0 ∷ 0 ∷ 0x42c80000 ∷ 0 ∷ 0x42c80000 ∷ 0x42c80000 ∷ []) 7 5 0 0 7 5
+    ∷ mesh (pen 2 0) (begin ∷ line ∷ endClosed ∷ []) (0 ∷ 0 ∷ 0x42c80000 ∷ 0 ∷ []) 8 8 0 0 8 8
+    ∷ mesh (pen 0 0) (begin ∷ line ∷ endClosed ∷ []) (0 ∷ 0 ∷ 0x42c80000 ∷ 0 ∷ []) 4 4 0 0 4 4 ∷ []
+
+pub worked : every cases ≡ true
+unfolding every says cases reads after gotOf lastThree lastReplaced computeNormalOf inDomain normalOf floorRoot partsRoot bitsRoot rootOf plusOf minusOf timesOf overOf negatedOf turnedOf dotOf crossOf squareLengthOf lengthOf normalizeOf singleOf pairOf sideLineOf unmovedOf movedOf clippedOf cornerOf overshootsOf foldsOf edgeSideOf edgeOf exceededOf clippedPairOf concaveOf hasPointOf decideOf joinSideOf innerJoinOf withSideOf joinSidePositionsOf joinOf baseVertexOf sideVerticesOf capVertexOf capPairOf capVerticesOf vertexOf triangleOf coordinateIn firstOutside within lineJoinOf inRange clipOf preparedOf strokeOf malformed checkedOf runsFrom names placed firstMisplaced endsInside named pointCount endpointsOf dataOf jointOf capOf startCapOf endCapOf jointsFrom jointsOf nearOf keptBehind allNear trimmed keptPoints legOf nextLegOf legsFrom legsOf shortOf firstShort vertexCount jointVerticesOf verticesOf sections flatT different triOf between stripOf through drawsCap shapeOf shapeCount shapeVertices shapeTriangles meshVertices meshCount meshTriangles meshEdges judgedOf acceptedOf strokedOf outcomeOf leadingZeros add sub mul div neg lt eq le ofBits toBits over
+worked = refl
+
+-- the program's example, `M0 1L2 1`: its four vertices, with their normals and advancements, and its triangles
+pub line-example : Outcome
+line-example = outcomeOf (begin ∷ line ∷ endOpen ∷ []) (map f32 (0 ∷ 0x3f800000 ∷ 0x40000000 ∷ 0x3f800000 ∷ [])) (optionsOf (pen 0 0)) (replicate 20 (f32 0)) (replicate 7 9)
+
+pub written : map (toBits binary32) (line-example .vertices) ≡ 0 ∷ 0x40000000 ∷ 0 ∷ 0x3f800000 ∷ 0
+    ∷ 0 ∷ 0 ∷ 0 ∷ 0xbf800000 ∷ 0
+    ∷ 0x40000000 ∷ 0x40000000 ∷ 0 ∷ 0x3f800000 ∷ 0x40000000
+    ∷ 0x40000000 ∷ 0 ∷ 0 ∷ 0xbf800000 ∷ 0x40000000 ∷ []
+unfolding line-example normalOf floorRoot partsRoot bitsRoot rootOf plusOf minusOf timesOf overOf negatedOf turnedOf dotOf crossOf squareLengthOf lengthOf normalizeOf singleOf pairOf sideLineOf unmovedOf movedOf clippedOf cornerOf overshootsOf foldsOf edgeSideOf edgeOf exceededOf clippedPairOf concaveOf hasPointOf decideOf joinSideOf innerJoinOf withSideOf joinSidePositionsOf joinOf baseVertexOf sideVerticesOf capVertexOf capPairOf capVerticesOf vertexOf triangleOf coordinateIn firstOutside within lineJoinOf inRange clipOf preparedOf strokeOf malformed checkedOf runsFrom names placed firstMisplaced endsInside named pointCount endpointsOf dataOf jointOf capOf startCapOf endCapOf jointsFrom jointsOf nearOf keptBehind allNear trimmed keptPoints legOf nextLegOf legsFrom legsOf shortOf firstShort vertexCount jointVerticesOf verticesOf sections flatT different triOf between stripOf through drawsCap shapeOf shapeCount shapeVertices shapeTriangles meshVertices meshCount meshTriangles meshEdges judgedOf acceptedOf strokedOf outcomeOf leadingZeros add sub mul div neg lt eq le ofBits toBits over
+written = refl
+
+-- the seventh number was not asked for, and is left as it was
+pub faced : line-example .triangles ≡ 1 ∷ 0 ∷ 2 ∷ 1 ∷ 2 ∷ 3 ∷ 9 ∷ []
+unfolding line-example normalOf floorRoot partsRoot bitsRoot rootOf plusOf minusOf timesOf overOf negatedOf turnedOf dotOf crossOf squareLengthOf lengthOf normalizeOf singleOf pairOf sideLineOf unmovedOf movedOf clippedOf cornerOf overshootsOf foldsOf edgeSideOf edgeOf exceededOf clippedPairOf concaveOf hasPointOf decideOf joinSideOf innerJoinOf withSideOf joinSidePositionsOf joinOf baseVertexOf sideVerticesOf capVertexOf capPairOf capVerticesOf vertexOf triangleOf coordinateIn firstOutside within lineJoinOf inRange clipOf preparedOf strokeOf malformed checkedOf runsFrom names placed firstMisplaced endsInside named pointCount endpointsOf dataOf jointOf capOf startCapOf endCapOf jointsFrom jointsOf nearOf keptBehind allNear trimmed keptPoints legOf nextLegOf legsFrom legsOf shortOf firstShort vertexCount jointVerticesOf verticesOf sections flatT different triOf between stripOf through drawsCap shapeOf shapeCount shapeVertices shapeTriangles meshVertices meshCount meshTriangles meshEdges judgedOf acceptedOf strokedOf outcomeOf leadingZeros add sub mul div neg lt eq le ofBits toBits over
+faced = refl
