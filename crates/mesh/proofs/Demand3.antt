@@ -27,7 +27,7 @@ use Rattle.run.proofs.Facts.{run-covers, run-numbers}
 use Rattle.drive.specs.Runs.{runsOf, drawnOf, meshVertices, meshCount, meshTriangles, meshEdges, meshCounts}
 use Rattle.drive.proofs.Runs.{length-vertices}
 use Rattle.mesh.specs.Answer.{judgedOf}
-use Rattle.mesh.specs.Demand3.{Earns, RunStands, AllStand, Written, Rooms, Demand3}
+use Rattle.mesh.specs.Demand3.{EarnsNone, RunStands, AllStand, Written, Rooms, Demand3}
 use Rattle.mesh.specs.Mesh.{Outcome, refused, roomFor, drawn, acceptedOf, strokedOf, outcomeOf}
 use Rattle.mesh.specs.declared.answer.Meshed.the-variants.{Mesh, VertexRoom, TriangleRoom}
 
@@ -83,7 +83,7 @@ module _ (o : Stroke) (rs : List (Run Endpoint)) (v : List Float) (t : List ℕ)
   rooms-decide = record { few-vertices = no-vertices; few-triangles = no-triangles; enough = λ h g. rw (is-whole h g) (all-written h g) }
 
 -- ---- the whole call
-pub demand-3 : (verbs : List ℕ) (coords : List Float) (options : Options) (o : Stroke) → Earns verbs coords options o → (v : List Float) (t : List ℕ) → Demand3 verbs coords options o v t
+pub demand-3 : (verbs : List ℕ) (coords : List Float) (options : Options) (o : Stroke) → EarnsNone verbs coords options o → (v : List Float) (t : List ℕ) → Demand3 verbs coords options o v t
 unfolding outcomeOf strokedOf
 demand-3 verbs coords options o e v t =
     let s : Sound verbs coords = sound verbs coords (e .accepted) in

@@ -25,7 +25,7 @@ use Rattle.mesh.specs.Mesh.{Outcome, refused, outcomeOf}
 use Rattle.mesh.specs.declared.answer.Meshed.the-variants.{Mesh, VertexRoom, TriangleRoom}
 
 -- none of refusals 1 to 5 is earned
-pub record Earns (verbs : List ℕ) (coords : List Float) (options : Options) (o : Stroke) : Type 0 where
+pub record EarnsNone (verbs : List ℕ) (coords : List Float) (options : Options) (o : Stroke) : Type 0 where
   pub within : strokeOf options ≡ stroke.Stroke o
   pub accepted : checkedOf verbs coords ≡ Accepted
   pub long : firstShort (meshEdges o (runsOf verbs coords)) ≡ length (meshEdges o (runsOf verbs coords))
