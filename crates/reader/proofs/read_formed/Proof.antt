@@ -1,0 +1,58 @@
+-- `reader::read_formed` meets its contract. Assumes nothing.
+use borrow.Author.Needs.{needs}
+use mathlib.Core.Path.{sym, ap, _∙_}
+use Rattle.reader.specs.Answer.{isPath}
+use Rattle.reader.proofs.Judging.{has-room, is-written, is-refused}
+use Rattle.reader.proofs.read_formed.Statement.{statement}
+use Rattle.reader.proofs.read_formed.Tie as tie
+
+judged-requires : tie.Need-judged-requires
+judged-requires c κs = search needs
+
+is-path-requires : tie.Need-is-path-requires
+is-path-requires c κs = search needs
+
+write-requires : tie.Need-write-requires
+write-requires c κs =
+    let at-if1 = c .before .before in
+    let at-is-path = at-if1 .before in
+    let at-judged = at-is-path .before in
+    let entry = at-judged .before .before .before .before in
+    let p = ap (λ r. isPath r) (sym (at-judged .judged .ensures)) ∙ sym (at-is-path .is-path .ensures) ∙ at-if1 .if1 .taken in
+    has-room _ _ _ (entry .args .counts) (entry .pre .0) (entry .pre .1) p
+
+same-length : tie.Need-same-length
+same-length c = search needs
+
+same-length-2 : tie.Need-same-length-2
+same-length-2 c = search needs
+
+returns : tie.Need-returns
+returns c =
+    let at-write = c .before .before .before .before in
+    let at-if1 = at-write .before .before .before in
+    let at-is-path = at-if1 .before in
+    let at-judged = at-is-path .before in
+    let entry = at-judged .before .before .before .before in
+    let p = ap (λ r. isPath r) (sym (at-judged .judged .ensures)) ∙ sym (at-is-path .is-path .ensures) ∙ at-if1 .if1 .taken in
+    rw (at-judged .judged .ensures) (is-written _ _ _ (entry .args .counts) _ _ p (at-write .write .ensures .0) (at-write .write .ensures .1))
+
+returns-2 : tie.Need-returns-2
+returns-2 c =
+    let at-is-path = c .before in
+    let at-judged = at-is-path .before in
+    let entry = at-judged .before .before .before .before in
+    let p = ap (λ r. isPath r) (sym (at-judged .judged .ensures)) ∙ sym (at-is-path .is-path .ensures) ∙ c .if1 .left in
+    rw (at-judged .judged .ensures) (is-refused _ _ _ (entry .args .counts) p)
+
+pub read-formed-spec : {M : Type 1} → statement M
+read-formed-spec =
+    tie.close
+    (tie.spec
+    judged-requires
+    is-path-requires
+    write-requires
+    same-length
+    same-length-2
+    returns
+    returns-2)

@@ -1,0 +1,102 @@
+// What the reader answers.
+use crate::counts::Counts;
+use crate::counts::Found;
+use path::verbs::VERB_LIMIT;
+ghost use mathlib.Core.Path.{_≡_};
+ghost use Rattle.reader.specs.Answer.{readAnswerOf, withCounts, withPlace, isPath, roomOf, judgedOf};
+
+// A path, or the first refusal by number.
+pub enum Reading {
+    // How many verbs, and how many coordinates.
+    Path(usize, usize),
+    // Refusal 8: too many bytes.
+    TooLong,
+    // Refusal 9, at the first byte with which the text so far begins no text of the form, or at the length.
+    OutOfForm(usize),
+    // Refusal 10, at the first byte of the first number that is too large.
+    TooLarge(usize),
+    // Refusal 11: a lent list is too short, or there are more verbs than a path may have.
+    NoRoom,
+}
+
+// The same in the terms of document 01's table.
+pub struct ReadAnswer {
+    pub number: u32,
+    pub place: usize,
+    pub verbs: usize,
+    pub coords: usize,
+}
+
+// Refusal 11, by what a text of the form comes to and the places that are lent.
+fn room(c: Counts, verb_room: usize, coord_room: usize) -> Reading
+    ensures { λ r. ⌜ r ≡ roomOf c «verb_room» «coord_room» ⌝ }
+{
+    if verb_room < c.verbs {
+        return Reading::NoRoom;
+    }
+    if coord_room < c.coords {
+        return Reading::NoRoom;
+    }
+    if VERB_LIMIT < c.verbs {
+        return Reading::NoRoom;
+    }
+    Reading::Path(c.verbs, c.coords)
+}
+
+// Refusals 10 and 11.
+pub fn judged(c: Counts, verb_room: usize, coord_room: usize) -> Reading
+    ensures { λ r. ⌜ r ≡ judgedOf c «verb_room» «coord_room» ⌝ }
+{
+    let large = c.large;
+    match large {
+        Found::At(place) => Reading::TooLarge(place),
+        Found::Nowhere => room(c, verb_room, coord_room),
+    }
+}
+
+pub fn is_path(r: Reading) -> bool
+    ensures { λ t. ⌜ t ≡ isPath r ⌝ }
+{
+    match r {
+        Reading::Path(_, _) => true,
+        Reading::TooLong => false,
+        Reading::OutOfForm(_) => false,
+        Reading::TooLarge(_) => false,
+        Reading::NoRoom => false,
+    }
+}
+
+// The number, the place and both counts that an answer stands for.
+pub fn read_answer_of(r: Reading) -> ReadAnswer
+    ensures { λ a. ⌜ a ≡ readAnswerOf r ⌝ }
+{
+    match r {
+        Reading::Path(verbs, coords) => with_counts(verbs, coords),
+        Reading::TooLong => with_place(8, 0),
+        Reading::OutOfForm(place) => with_place(9, place),
+        Reading::TooLarge(place) => with_place(10, place),
+        Reading::NoRoom => with_place(11, 0),
+    }
+}
+
+fn with_counts(verbs: usize, coords: usize) -> ReadAnswer
+    ensures { λ r. ⌜ r ≡ withCounts verbs coords ⌝ }
+{
+    ReadAnswer {
+        number: 0,
+        place: 0,
+        verbs: verbs,
+        coords: coords,
+    }
+}
+
+fn with_place(number: u32, place: usize) -> ReadAnswer
+    ensures { λ r. ⌜ r ≡ withPlace number place ⌝ }
+{
+    ReadAnswer {
+        number: number,
+        place: place,
+        verbs: 0,
+        coords: 0,
+    }
+}

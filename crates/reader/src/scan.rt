@@ -1,0 +1,47 @@
+// The first pass over a text: whether it has the form, and what it comes to.
+use crate::counts::Counts;
+use crate::counts::added;
+use crate::counts::no_counts;
+use form::machine::is_lost;
+use form::machine::may_end;
+use values::state::calls_for;
+use values::state::end_calls_for;
+use values::state::start;
+use values::state::step;
+ghost use mathlib.Core.Path.{_≡_};
+ghost use Prim.Native.Nat.{_≤_};
+ghost use lib.ListN.{length};
+ghost use Rattle.reader.specs.Answer.{textLimit};
+ghost use Rattle.reader.specs.Read.{scannedOf};
+
+pub enum Scanned {
+    // The place of refusal 9.
+    OutOfForm(usize),
+    Formed(Counts),
+}
+
+pub fn scan(text: &[u8]) -> Scanned
+    requires { ⌜ length (now text) ≤ textLimit ⌝ }
+    ensures { λ r. ⌜ r ≡ scannedOf (now (text .entry)) ⌝ }
+{
+    let mut s = start();
+    let mut c = no_counts();
+    let mut i: usize = 0;
+    while i < text.len() {
+        let b = text[i];
+        let after = step(s, b, i);
+        let m = after.mode;
+        if is_lost(m) {
+            return Scanned::OutOfForm(i);
+        }
+        c = added(c, calls_for(s, b));
+        s = after;
+        i += 1;
+    }
+    let m = s.mode;
+    if may_end(m) {
+        Scanned::Formed(added(c, end_calls_for(s)))
+    } else {
+        Scanned::OutOfForm(i)
+    }
+}

@@ -1,0 +1,85 @@
+-- `values::events::letter` meets its contract. Assumes nothing.
+use borrow.Author.Needs.{needs}
+use Rattle.values.proofs.events.letter.Statement.{statement}
+use Rattle.values.proofs.events.letter.Tie as tie
+
+enum-told : tie.Need-enum-told
+enum-told c = search needs
+
+enum-told-2 : tie.Need-enum-told-2
+enum-told-2 c = search needs
+
+enum-told-3 : tie.Need-enum-told-3
+enum-told-3 c = search needs
+
+enum-told-4 : tie.Need-enum-told-4
+enum-told-4 c = search needs
+
+enum-told-5 : tie.Need-enum-told-5
+enum-told-5 c = search needs
+
+end-requires : tie.Need-end-requires
+end-requires c κs = search needs
+
+enum-told-6 : tie.Need-enum-told-6
+enum-told-6 c = search needs
+
+go-on-requires : tie.Need-go-on-requires
+go-on-requires c κs = search needs
+
+enum-told-7 : tie.Need-enum-told-7
+enum-told-7 c = search needs
+
+close-requires : tie.Need-close-requires
+close-requires c κs = search needs
+
+enum-told-8 : tie.Need-enum-told-8
+enum-told-8 c = search needs
+
+returns : tie.Need-returns
+returns c = search needs
+
+returns-2 : tie.Need-returns-2
+returns-2 c = search needs
+
+returns-3 : tie.Need-returns-3
+returns-3 c = search needs
+
+returns-4 : tie.Need-returns-4
+returns-4 c = search needs
+
+returns-5 : tie.Need-returns-5
+returns-5 c = search needs
+
+returns-6 : tie.Need-returns-6
+returns-6 c = rw (c .before .enum-told6 .given .1) (c .go-on .ensures)
+
+returns-7 : tie.Need-returns-7
+returns-7 c = search needs
+
+returns-8 : tie.Need-returns-8
+returns-8 c = search needs
+
+pub letter-spec : {M : Type 1} → statement M
+letter-spec =
+    tie.close
+    (tie.spec
+    enum-told
+    enum-told-2
+    enum-told-3
+    enum-told-4
+    enum-told-5
+    end-requires
+    enum-told-6
+    go-on-requires
+    enum-told-7
+    close-requires
+    enum-told-8
+    returns
+    returns-2
+    returns-3
+    returns-4
+    returns-5
+    returns-6
+    returns-7
+    returns-8)

@@ -1,0 +1,13 @@
+-- `values::state::start` meets its contract. Assumes nothing.
+use borrow.Author.Needs.{needs}
+use Rattle.values.proofs.state.start.Statement.{statement}
+use Rattle.values.proofs.state.start.Tie as tie
+
+nothing-known-requires : tie.Need-nothing-known-requires
+nothing-known-requires c κs = search needs
+
+returns : tie.Need-returns
+returns c = rw (c .nothing-known .ensures)
+
+pub start-spec : {M : Type 1} → statement M
+start-spec = tie.close (tie.spec nothing-known-requires returns)

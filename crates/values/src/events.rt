@@ -1,0 +1,128 @@
+// What a path text calls for.
+use crate::known::Known;
+use crate::numbers::NUMBER_LIMIT;
+use crate::numbers::Part;
+use crate::numbers::value;
+use form::classes::Class;
+use form::machine::Mode;
+ghost use mathlib.Core.Path.{_≡_};
+ghost use Rattle.values.specs.Events.{isInside, checkedOf, beyondOf, pointOf, endOf, closeOf, goOnOf, letterOf};
+
+pub enum Event {
+    Nothing,
+    // A run begins at a point.
+    Begin(f32, f32),
+    // A line to a point.
+    Line(f32, f32),
+    EndOpen,
+    EndClosed,
+    // A number beyond the limit, at the place of its first byte.
+    Beyond(usize),
+}
+
+// Whether a run is open.
+pub fn is_inside(m: Mode) -> bool
+    ensures { λ r. ⌜ r ≡ isInside m ⌝ }
+{
+    match m {
+        Mode::Start => false,
+        Mode::Closed => false,
+        Mode::WantX => false,
+        Mode::SignX => false,
+        Mode::DigitX => false,
+        Mode::GapX => false,
+        Mode::WantY => false,
+        Mode::SignY => false,
+        Mode::DigitY => true,
+        Mode::GapY => true,
+        Mode::Lost => false,
+    }
+}
+
+// By a number that ends.
+pub fn beyond(p: Part, v: Known) -> Event
+    ensures { λ r. ⌜ r ≡ beyondOf p v ⌝ }
+{
+    match p {
+        Part::No => Event::Nothing,
+        Part::X => checked(v),
+        Part::Y => checked(v),
+    }
+}
+
+fn checked(v: Known) -> Event
+    ensures { λ r. ⌜ r ≡ checkedOf v ⌝ }
+{
+    if NUMBER_LIMIT < v.size {
+        Event::Beyond(v.place)
+    } else {
+        Event::Nothing
+    }
+}
+
+// By the point that a number completes.
+pub fn point(p: Part, v: Known) -> Event
+    ensures { λ r. ⌜ r ≡ pointOf p v ⌝ }
+{
+    match p {
+        Part::No => Event::Nothing,
+        Part::X => Event::Nothing,
+        Part::Y => {
+            let y = value(v.minus, v.size);
+            if v.fresh {
+                Event::Begin(v.x, y)
+            } else {
+                Event::Line(v.x, y)
+            }
+        }
+    }
+}
+
+// By M or the end of the text.
+pub fn end(inside: bool) -> Event
+    ensures { λ r. ⌜ r ≡ endOf inside ⌝ }
+{
+    if inside {
+        Event::EndOpen
+    } else {
+        Event::Nothing
+    }
+}
+
+// By Z.
+fn close(inside: bool) -> Event
+    ensures { λ r. ⌜ r ≡ closeOf inside ⌝ }
+{
+    if inside {
+        Event::EndClosed
+    } else {
+        Event::Nothing
+    }
+}
+
+// By L, which after Z begins a run.
+fn go_on(inside: bool, v: Known) -> Event
+    ensures { λ r. ⌜ r ≡ goOnOf inside v ⌝ }
+{
+    if inside {
+        Event::Nothing
+    } else {
+        Event::Begin(v.first_x, v.first_y)
+    }
+}
+
+// By a letter.
+pub fn letter(inside: bool, v: Known, k: Class) -> Event
+    ensures { λ r. ⌜ r ≡ letterOf inside v k ⌝ }
+{
+    match k {
+        Class::Blank => Event::Nothing,
+        Class::Comma => Event::Nothing,
+        Class::Sign => Event::Nothing,
+        Class::Digit => Event::Nothing,
+        Class::MoveTo => end(inside),
+        Class::LineTo => go_on(inside, v),
+        Class::ClosePath => close(inside),
+        Class::Other => Event::Nothing,
+    }
+}
