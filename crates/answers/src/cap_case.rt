@@ -7,10 +7,10 @@ use lines::floats::read;
 use lines::words::Place;
 use lines::words::is_end;
 use plane::vector::Point;
-use printing::answers::bad_line;
-use printing::answers::mesh_lists;
 use printing::buffer::Buffer;
 use printing::buffer::Printed;
+use printing::replies::bad_line;
+use printing::replies::mesh_lists;
 use printing::words::text;
 use vertices::cap::tessellate_empty_square_cap;
 

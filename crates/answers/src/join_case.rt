@@ -12,9 +12,9 @@ use lines::numbers;
 use lines::words::Place;
 use lines::words::is_end;
 use plane::vector::Point;
-use printing::answers::bad_line;
 use printing::buffer::Buffer;
 use printing::buffer::Printed;
+use printing::replies::bad_line;
 
 pub fn answer(line: &[u8], place: Place, out: &mut Buffer, p: Printed) -> Printed {
     let h = floats::read(line, place);

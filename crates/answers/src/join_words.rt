@@ -4,7 +4,7 @@ use endpoint::InnerJoin;
 use endpoint::SidePoints;
 use printing::buffer::Buffer;
 use printing::buffer::Printed;
-use printing::lists::named_row;
+use printing::rows::named_row;
 use printing::words::text;
 
 // Prints the answer of a join that is worked.

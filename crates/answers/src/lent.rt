@@ -24,3 +24,14 @@ pub fn fill_numbers(list: &mut [u16])
         i += 1;
     }
 }
+
+// Bytes are filled as numbers are.
+pub fn fill_bytes(list: &mut [u8])
+    requires { ⌜ length (now list) ≤ 81920 ⌝ }
+{
+    let mut i = 0;
+    while i < list.len() {
+        list[i] = ((i * 7 + 3) % 251) as u8;
+        i += 1;
+    }
+}

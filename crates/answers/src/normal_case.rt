@@ -4,10 +4,10 @@ use lines::words::Place;
 use lines::words::is_end;
 use plane::normal::compute_normal;
 use plane::normal::normal_answer_of;
-use printing::answers::bad_line;
-use printing::answers::float_answer;
 use printing::buffer::Buffer;
 use printing::buffer::Printed;
+use printing::replies::bad_line;
+use printing::replies::float_answer;
 
 pub fn answer(line: &[u8], place: Place, out: &mut Buffer, p: Printed) -> Printed {
     let v1 = read_point(line, place);

@@ -2,10 +2,10 @@
 use lines::floats::read;
 use lines::words::Place;
 use lines::words::is_end;
-use printing::answers::bad_line;
-use printing::answers::float_answer;
 use printing::buffer::Buffer;
 use printing::buffer::Printed;
+use printing::replies::bad_line;
+use printing::replies::float_answer;
 
 pub fn answer(line: &[u8], place: Place, out: &mut Buffer, p: Printed) -> Printed {
     let x = read(line, place);

@@ -12,7 +12,7 @@ use Rattle.lines.specs.Digits.{digitOf, areDigits, spelt, glyphOf, digit
 use Rattle.lines.specs.Floats.{floatBy, floatOf, floatHex}
 use Rattle.lines.specs.Numbers.{numberOf}
 use Rattle.lines.specs.Words.{upToSpace, wordAt, restAt}
-use Rattle.lines.specs.declared.bytes.Bytes.the-variants as count
+use Rattle.lines.specs.declared.byte_lists.Bytes.the-variants as count
 use Rattle.lines.specs.declared.floats.Float.the-variants as float
 use Rattle.lines.specs.declared.numbers.Number.the-variants as number
 use Rattle.lines.specs.declared.words.Place.the-variants.{At, End, Lost}

@@ -11,7 +11,7 @@ use lib.Seq.{drop-cons, take-suc, take-all, length-take-le}
 use borrow.Author.Tests.{lt-ltb, le-ltb, le-leb, lt-leb, ltb-true, leb-true, eqb-true}
 use Rattle.lines.specs.Bytes.{pairsOf, isDash, arePairs, isHeld, bytesIn, pickBytes, bytesOf}
 use Rattle.lines.specs.Digits.{digitOf, areDigits}
-use Rattle.lines.specs.declared.bytes.Bytes.the-variants.{Count, Bad}
+use Rattle.lines.specs.declared.byte_lists.Bytes.the-variants.{Count, Bad}
 use Rattle.lists.specs.Over.{over}
 use Rattle.lists.proofs.Laws.{over-next}
 

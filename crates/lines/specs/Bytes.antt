@@ -6,9 +6,9 @@ use lib.Dec.{eqb, leb}
 use lib.ListN.{length, getD}
 use Rattle.lines.specs.Digits.{digitOf, areDigits}
 use Rattle.lines.specs.Words.{wordAt, restAt}
-use Rattle.lines.specs.declared.bytes.Bytes.{Bytes}
-use Rattle.lines.specs.declared.bytes.Bytes.the-variants.{Count, Bad}
-use Rattle.lines.specs.declared.bytes.BytesRead.{BytesRead}
+use Rattle.lines.specs.declared.byte_lists.Bytes.{Bytes}
+use Rattle.lines.specs.declared.byte_lists.Bytes.the-variants.{Count, Bad}
+use Rattle.lines.specs.declared.byte_lists.BytesRead.{BytesRead}
 use Rattle.lines.specs.declared.words.Place.{Place}
 use Rattle.lines.specs.declared.words.Place.the-variants.{Lost}
 

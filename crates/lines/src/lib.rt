@@ -1,5 +1,5 @@
 // Lines of text, as cases and answers are written: words, numbers, floats, byte lists, and how these are printed.
-pub mod bytes;
+pub mod byte_lists;
 mod digits;
 pub mod floats;
 pub mod numbers;

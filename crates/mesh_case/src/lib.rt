@@ -7,12 +7,12 @@ mod front;
 use crate::call::answer_mesh;
 use crate::coords::read_coords;
 use crate::front::read_front;
-use lines::bytes::read;
+use lines::byte_lists::read;
 use lines::words::Place;
 use lines::words::is_end;
-use printing::answers::bad_line;
 use printing::buffer::Buffer;
 use printing::buffer::Printed;
+use printing::replies::bad_line;
 
 // A line has at most 262,144 bytes, and a verb takes two of them.
 const VERB_ROOM: usize = 131072;

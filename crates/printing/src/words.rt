@@ -4,6 +4,7 @@ use crate::buffer::Printed;
 use crate::buffer::with_room;
 use lines::prints::put_decimal;
 use lines::prints::put_float;
+use lines::prints::put_hex;
 ghost use Prim.Native.Nat.{_+_, _≤_};
 ghost use lib.ListN.{length};
 
@@ -36,6 +37,15 @@ pub fn hex(out: &mut Buffer, p: Printed, x: f32) -> Printed {
     }
 }
 
+// Prints the two hex digits of a byte.
+pub fn hex_byte(out: &mut Buffer, p: Printed, b: u8) -> Printed {
+    let q = with_room(out, p);
+    Printed {
+        waiting: hex_byte_at(out, q.waiting, b),
+        open: q.open,
+    }
+}
+
 pub fn space(out: &mut Buffer, p: Printed) -> Printed {
     text(out, p, b" ")
 }
@@ -56,7 +66,7 @@ pub fn float(out: &mut Buffer, p: Printed, x: f32) -> Printed {
     hex(out, q, x)
 }
 
-// These three put what their callers print at a place of the buffer, and answer the place behind it.
+// These four put what their callers print at a place of the buffer, and answer the place behind it.
 fn text_at(out: &mut [u8], at: usize, bytes: &[u8]) -> usize
     requires { ⌜ at + length (now bytes) ≤ length (now out) ⌝ }
 {
@@ -74,4 +84,11 @@ fn hex_at(out: &mut [u8], at: usize, x: f32) -> usize
 {
     put_float(&mut out[at..], x);
     at + 8
+}
+
+fn hex_byte_at(out: &mut [u8], at: usize, b: u8) -> usize
+    requires { ⌜ at + 2 ≤ length (now out) ⌝ }
+{
+    put_hex(&mut out[at..], b as u64, 2);
+    at + 2
 }

@@ -5,9 +5,9 @@ use answers::normal_case;
 use answers::root_case;
 use lines::words::Place;
 use lines::words::next_word;
-use printing::answers::bad_line;
 use printing::buffer::Buffer;
 use printing::buffer::Printed;
+use printing::replies::bad_line;
 
 // Answers a line.
 pub fn answer(line: &[u8], out: &mut Buffer, p: Printed) -> Printed {
@@ -17,6 +17,7 @@ pub fn answer(line: &[u8], out: &mut Buffer, p: Printed) -> Printed {
     let rest = word.rest;
     match kind_of(&line[start..end]) {
         Kind::Mesh => mesh_case::answer(line, rest, out, p),
+        Kind::Read => read_case::answer(line, rest, out, p),
         Kind::Root => root_case::answer(line, rest, out, p),
         Kind::Normal => normal_case::answer(line, rest, out, p),
         Kind::Window => window_case::answer(line, rest, out, p),
@@ -28,6 +29,7 @@ pub fn answer(line: &[u8], out: &mut Buffer, p: Printed) -> Printed {
 
 enum Kind {
     Mesh,
+    Read,
     Root,
     Normal,
     Window,
@@ -39,6 +41,9 @@ enum Kind {
 fn kind_of(word: &[u8]) -> Kind {
     if check::same(word, b"mesh") {
         return Kind::Mesh;
+    }
+    if check::same(word, b"read") {
+        return Kind::Read;
     }
     if check::same(word, b"root") {
         return Kind::Root;

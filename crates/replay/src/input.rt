@@ -1,11 +1,11 @@
 // Standard input, read by chunks and taken apart into lines, of any number and any length.
 use crate::cases::answer;
 use libc::STDIN_FILENO;
-use printing::answers::bad_line;
 use printing::buffer::Buffer;
 use printing::buffer::Printed;
 use printing::buffer::flushed;
 use printing::buffer::nothing;
+use printing::replies::bad_line;
 
 // The room for a line: a longer one is a bad line.
 pub const ROOM: usize = 262144;

@@ -1,15 +1,15 @@
 // The answer to `window OPS`, a list of calls of the window: `window ANSWERS`, a word to each call.
+mod calls;
 mod op;
-mod run;
 
+use crate::calls::answer_ops;
 use crate::op::read_op;
-use crate::run::answer_ops;
 use lines::numbers::read;
 use lines::words::Place;
 use lines::words::is_end;
-use printing::answers::bad_line;
 use printing::buffer::Buffer;
 use printing::buffer::Printed;
+use printing::replies::bad_line;
 use printing::words::line_end;
 use printing::words::number;
 use printing::words::text;

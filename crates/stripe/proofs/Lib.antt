@@ -1,0 +1,2 @@
+-- `Laws` says what the two branches of each step draw.
+pub mod Laws

@@ -1,0 +1,2 @@
+-- `Drawing` is what the program draws of a path text.
+pub mod Drawing
