@@ -23,11 +23,18 @@ use Rattle.window.specs.declared.buffer.Replaced.{Replaced}
 use Rattle.window.proofs.Laws.{one-got, one-replaced}
 use Rattle.path.specs.declared.options.Options.{Options}
 use Rattle.mesh.specs.Mesh.{Outcome, outcomeOf}
+use Rattle.reader.specs.Outcome as reader
+use Rattle.reader.specs.Reads.{Reads}
+use Rattle.reader.proofs.Meets.{same-outcome}
 
 -- ---- mesh::tessellate: the answer and both lists
 pub mesh-one : (verbs : List ℕ) (coords : List Float) (options : Options) (v : List Float) (t : List ℕ) (a b : Outcome)
     → a ≡ outcomeOf verbs coords options v t → b ≡ outcomeOf verbs coords options v t → a ≡ b
 mesh-one verbs coords options v t a b h k = h ∙ sym k
+
+-- ---- reader::read: the answer and both lists
+pub read-one : (text verbs : List ℕ) (coords : List Float) (a b : reader.Outcome) → Reads text verbs coords a → Reads text verbs coords b → a ≡ b
+read-one text verbs coords a b h k = same-outcome text verbs coords a b h k
 
 -- ---- root::root
 pub root-one : (x : Float) (r s : Rooted) → Answers x (answerOf r) → Answers x (answerOf s) → r ≡ s
