@@ -44,7 +44,7 @@ fn room(c: Counts, verb_room: usize, coord_room: usize) -> Reading
 }
 
 // Refusals 10 and 11.
-pub fn judged(c: Counts, verb_room: usize, coord_room: usize) -> Reading
+pub(crate) fn judged(c: Counts, verb_room: usize, coord_room: usize) -> Reading
     ensures { λ r. ⌜ r ≡ judgedOf c «verb_room» «coord_room» ⌝ }
 {
     let large = c.large;
@@ -54,7 +54,7 @@ pub fn judged(c: Counts, verb_room: usize, coord_room: usize) -> Reading
     }
 }
 
-pub fn is_path(r: Reading) -> bool
+pub(crate) fn is_path(r: Reading) -> bool
     ensures { λ t. ⌜ t ≡ isPath r ⌝ }
 {
     match r {

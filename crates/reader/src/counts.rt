@@ -67,7 +67,7 @@ fn or_else(a: Found, b: Found) -> Found
     }
 }
 
-pub fn verbs_called(c: Called) -> usize
+pub(crate) fn verbs_called(c: Called) -> usize
     ensures { λ r. ⌜ r ≡ length (verbsCalled c) ⌝ }
 {
     let point = c.point;
@@ -75,7 +75,7 @@ pub fn verbs_called(c: Called) -> usize
     verb_count(point) + verb_count(letter)
 }
 
-pub fn coords_called(c: Called) -> usize
+pub(crate) fn coords_called(c: Called) -> usize
     ensures { λ r. ⌜ r ≡ length (coordsCalled c) ⌝ }
 {
     let point = c.point;
@@ -83,7 +83,7 @@ pub fn coords_called(c: Called) -> usize
     coord_count(point) + coord_count(letter)
 }
 
-pub fn no_counts() -> Counts
+pub(crate) fn no_counts() -> Counts
     ensures { λ r. ⌜ r ≡ noCounts ⌝ }
 {
     Counts {
@@ -94,7 +94,7 @@ pub fn no_counts() -> Counts
 }
 
 // The counts with what a byte calls for. The bounds keep the sums in range: no byte calls for more than two verbs.
-pub fn added(c: Counts, e: Called) -> Counts
+pub(crate) fn added(c: Counts, e: Called) -> Counts
     requires { ⌜ (c .verbs ≤ 2 * textLimit) × (c .coords ≤ 4 * textLimit) ⌝ }
     ensures { λ r. ⌜ r ≡ addedOf c e ⌝ }
 {

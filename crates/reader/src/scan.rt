@@ -20,7 +20,7 @@ pub enum Scanned {
     Formed(Counts),
 }
 
-pub fn scan(text: &[u8]) -> Scanned
+pub(crate) fn scan(text: &[u8]) -> Scanned
     requires { ⌜ length (now text) ≤ textLimit ⌝ }
     ensures { λ r. ⌜ r ≡ scannedOf (now (text .entry)) ⌝ }
 {

@@ -63,7 +63,7 @@ fn put_called(verbs: &mut [u8], coords: &mut [f32], c: Called)
     put_event(&mut verbs[n..], &mut coords[m..], letter);
 }
 
-pub fn write(text: &[u8], verbs: &mut [u8], coords: &mut [f32])
+pub(crate) fn write(text: &[u8], verbs: &mut [u8], coords: &mut [f32])
     requires { ⌜ HasRoom (now text) (now verbs) (now coords) ⌝ }
     ensures { λ _. ⌜ now (verbs .exit) ≡ over (verbsOf (eventsIn (now (text .entry)))) (now (verbs .entry)) ⌝ }
     ensures { λ _. ⌜ now (coords .exit) ≡ over (coordsOf (eventsIn (now (text .entry)))) (now (coords .entry)) ⌝ }

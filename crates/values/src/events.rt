@@ -21,7 +21,7 @@ pub enum Event {
 }
 
 // Whether a run is open.
-pub fn is_inside(m: Mode) -> bool
+pub(crate) fn is_inside(m: Mode) -> bool
     ensures { λ r. ⌜ r ≡ isInside m ⌝ }
 {
     match m {
@@ -40,7 +40,7 @@ pub fn is_inside(m: Mode) -> bool
 }
 
 // By a number that ends.
-pub fn beyond(p: Part, v: Known) -> Event
+pub(crate) fn beyond(p: Part, v: Known) -> Event
     ensures { λ r. ⌜ r ≡ beyondOf p v ⌝ }
 {
     match p {
@@ -61,7 +61,7 @@ fn checked(v: Known) -> Event
 }
 
 // By the point that a number completes.
-pub fn point(p: Part, v: Known) -> Event
+pub(crate) fn point(p: Part, v: Known) -> Event
     ensures { λ r. ⌜ r ≡ pointOf p v ⌝ }
 {
     match p {
@@ -79,7 +79,7 @@ pub fn point(p: Part, v: Known) -> Event
 }
 
 // By M or the end of the text.
-pub fn end(inside: bool) -> Event
+pub(crate) fn end(inside: bool) -> Event
     ensures { λ r. ⌜ r ≡ endOf inside ⌝ }
 {
     if inside {
@@ -112,7 +112,7 @@ fn go_on(inside: bool, v: Known) -> Event
 }
 
 // By a letter.
-pub fn letter(inside: bool, v: Known, k: Class) -> Event
+pub(crate) fn letter(inside: bool, v: Known, k: Class) -> Event
     ensures { λ r. ⌜ r ≡ letterOf inside v k ⌝ }
 {
     match k {

@@ -24,7 +24,7 @@ pub struct Known {
 }
 
 // Before the first byte.
-pub fn nothing_known() -> Known
+pub(crate) fn nothing_known() -> Known
     ensures { λ r. ⌜ r ≡ nothingKnown ⌝ }
 {
     Known {
@@ -102,7 +102,7 @@ fn with_point(v: Known, y: f32) -> Known
 }
 
 // After a number's end.
-pub fn settled(p: Part, v: Known) -> Known
+pub(crate) fn settled(p: Part, v: Known) -> Known
     ensures { λ r. ⌜ r ≡ settledOf p v ⌝ }
 {
     match p {
@@ -125,7 +125,7 @@ fn digit_taken(going: bool, b: u8, place: usize, v: Known) -> Known
 }
 
 // After a byte, once the number before it is settled.
-pub fn taken(going: bool, b: u8, k: Class, place: usize, v: Known) -> Known
+pub(crate) fn taken(going: bool, b: u8, k: Class, place: usize, v: Known) -> Known
     requires { ⌜ k ≡ classOf b ⌝ }
     ensures { λ r. ⌜ r ≡ takenOf going b k place v ⌝ }
 {

@@ -18,7 +18,7 @@ pub enum Part {
     Y,
 }
 
-pub fn part_of(m: Mode) -> Part
+pub(crate) fn part_of(m: Mode) -> Part
     ensures { λ r. ⌜ r ≡ partOf m ⌝ }
 {
     match m {
@@ -37,7 +37,7 @@ pub fn part_of(m: Mode) -> Part
 }
 
 // The number that ends before a byte: only a digit goes on with one.
-pub fn ending(m: Mode, k: Class) -> Part
+pub(crate) fn ending(m: Mode, k: Class) -> Part
     ensures { λ r. ⌜ r ≡ endingOf m k ⌝ }
 {
     match k {
@@ -53,7 +53,7 @@ pub fn ending(m: Mode, k: Class) -> Part
 }
 
 // Whether a digit goes on with a number that has begun.
-pub fn is_going(m: Mode) -> bool
+pub(crate) fn is_going(m: Mode) -> bool
     ensures { λ r. ⌜ r ≡ goingOf m ⌝ }
 {
     match m {
@@ -72,7 +72,7 @@ pub fn is_going(m: Mode) -> bool
 }
 
 // The size of a number with one digit more.
-pub fn grown(size: u16, b: u8) -> u16
+pub(crate) fn grown(size: u16, b: u8) -> u16
     requires { ⌜ 48 ≤ b ⌝ }
     ensures { λ r. ⌜ r ≡ grownOf size b ⌝ }
 {
@@ -81,7 +81,7 @@ pub fn grown(size: u16, b: u8) -> u16
 }
 
 // -0 reads as +0.
-pub fn value(minus: bool, size: u16) -> f32
+pub(crate) fn value(minus: bool, size: u16) -> f32
     ensures { λ r. ⌜ r ≡ valueOf minus size ⌝ }
 {
     let x = size as f32;
