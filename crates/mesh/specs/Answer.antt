@@ -2,6 +2,7 @@
 use Prim.Native.Nat.{ℕ}
 use mathlib.Core.Bool.{Bool, true, false, cond}
 use lib.Dec.{ltb}
+use Rattle.refusals.specs.Numbers.{numberOf, accepted, outOfRange, tooManyVerbs, misplacedVerb, badCoordinate, shortEdge, vertexRoom, triangleRoom}
 use Rattle.count.specs.declared.Count.{Count}
 use Rattle.mesh.specs.declared.answer.Meshed.{Meshed}
 use Rattle.mesh.specs.declared.answer.Meshed.the-variants.{Mesh, OutOfRange, TooManyVerbs, Verb, Coordinate, ShortEdge, VertexRoom, TriangleRoom}
@@ -16,14 +17,14 @@ withPlace number place = record { number = number; place = place; vertices = 0; 
 
 -- the number, the place and both counts
 abbrev pub meshAnswerOf : Meshed → MeshAnswer
-meshAnswerOf (Mesh n m) = withCounts 0 n m
-meshAnswerOf OutOfRange = withPlace 1 0
-meshAnswerOf TooManyVerbs = withPlace 2 0
-meshAnswerOf (Verb i) = withPlace 3 i
-meshAnswerOf (Coordinate i) = withPlace 4 i
-meshAnswerOf (ShortEdge i) = withPlace 5 i
-meshAnswerOf (VertexRoom n m) = withCounts 6 n m
-meshAnswerOf (TriangleRoom n m) = withCounts 7 n m
+meshAnswerOf (Mesh n m) = withCounts (numberOf accepted) n m
+meshAnswerOf OutOfRange = withPlace (numberOf outOfRange) 0
+meshAnswerOf TooManyVerbs = withPlace (numberOf tooManyVerbs) 0
+meshAnswerOf (Verb i) = withPlace (numberOf misplacedVerb) i
+meshAnswerOf (Coordinate i) = withPlace (numberOf badCoordinate) i
+meshAnswerOf (ShortEdge i) = withPlace (numberOf shortEdge) i
+meshAnswerOf (VertexRoom n m) = withCounts (numberOf vertexRoom) n m
+meshAnswerOf (TriangleRoom n m) = withCounts (numberOf triangleRoom) n m
 
 abbrev pub isMesh : Meshed → Bool
 isMesh (Mesh n m) = true
@@ -37,8 +38,8 @@ isMesh (TriangleRoom n m) = false
 
 -- Refusals 5, 6 and 7, in their order, for an accepted path: a short edge, "too few vertex places", "too few triangle places"
 unfoldable pub judgedOf : Count → ℕ → ℕ → Meshed
-judgedOf c vertexRoom triangleRoom =
+judgedOf c vertexPlaces trianglePlaces =
     cond (ltb (c .short) (c .legs)) (ShortEdge (c .short))
-    (cond (ltb vertexRoom (c .vertices)) (VertexRoom (c .vertices) (c .triangles))
-    (cond (ltb triangleRoom (c .triangles)) (TriangleRoom (c .vertices) (c .triangles))
+    (cond (ltb vertexPlaces (c .vertices)) (VertexRoom (c .vertices) (c .triangles))
+    (cond (ltb trianglePlaces (c .triangles)) (TriangleRoom (c .vertices) (c .triangles))
     (Mesh (c .vertices) (c .triangles))))

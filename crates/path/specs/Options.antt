@@ -3,6 +3,7 @@ use Prim.Native.Nat.{ℕ}
 use mathlib.Core.Bool.{Bool, _&&_}
 use lib.Dec.{leb, eqb}
 use lib.Ieee.{Float, le}
+use Rattle.refusals.specs.Numbers.{numberOf, accepted, outOfRange}
 use Rattle.plane.specs.F32.{_⊗_, f32}
 use Rattle.plane.specs.Normal.{pick}
 use Rattle.endpoint.specs.declared.LineJoin.{LineJoin}
@@ -60,5 +61,5 @@ strokeOf o = pick (inRange o) (answer.Stroke (preparedOf o)) answer.Refused
 
 -- "1: an option outside its range, NaN included", place 0
 abbrev pub strokeAnswerOf : StrokeAnswer → CheckAnswer
-strokeAnswerOf (answer.Stroke s) = record { number = 0; place = 0 }
-strokeAnswerOf answer.Refused = record { number = 1; place = 0 }
+strokeAnswerOf (answer.Stroke s) = record { number = numberOf accepted; place = 0 }
+strokeAnswerOf answer.Refused = record { number = numberOf outOfRange; place = 0 }

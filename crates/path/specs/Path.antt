@@ -6,6 +6,7 @@ use mathlib.Core.List.{List}
 use lib.Dec.{ltb, eqb}
 use lib.ListN.{length}
 use lib.Ieee.{Float}
+use Rattle.refusals.specs.Numbers.{numberOf, accepted, tooManyVerbs, misplacedVerb, badCoordinate}
 use Rattle.plane.specs.Normal.{pick}
 use Rattle.path.specs.Verbs.{verbLimit, firstMisplaced, endsInside, pointCount}
 use Rattle.path.specs.Coordinates.{firstOutside}
@@ -26,10 +27,10 @@ checkedOf vs cs =
 
 -- the number and the place of document 01's table
 abbrev pub checkAnswerOf : Checked → CheckAnswer
-checkAnswerOf Accepted = record { number = 0; place = 0 }
-checkAnswerOf TooManyVerbs = record { number = 2; place = 0 }
-checkAnswerOf (Verb i) = record { number = 3; place = i }
-checkAnswerOf (Coordinate i) = record { number = 4; place = i }
+checkAnswerOf Accepted = record { number = numberOf accepted; place = 0 }
+checkAnswerOf TooManyVerbs = record { number = numberOf tooManyVerbs; place = 0 }
+checkAnswerOf (Verb i) = record { number = numberOf misplacedVerb; place = i }
+checkAnswerOf (Coordinate i) = record { number = numberOf badCoordinate; place = i }
 
 -- what an accepted path is, for the layers above: `checkedOf` is `Accepted` exactly then (proofs/Laws.antt)
 pub record Sound (vs : List ℕ) (cs : List Float) : Type 0 where

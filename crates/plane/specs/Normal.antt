@@ -1,6 +1,7 @@
 -- lyon's `compute_normal`, in its order of operations, and its domain: "components finite, size at most 2". Assumes nothing.
 use mathlib.Core.Bool.{Bool, true, false, _&&_}
 use lib.Ieee.{Float, lt}
+use Rattle.refusals.specs.Numbers.{numberOf, accepted, badCoordinate}
 use Rattle.plane.specs.F32.{f32, sizeBelow, sizeAtMost}
 use Rattle.plane.specs.Vector.{point, plusOf, overOf, turnedOf, dotOf, squareLengthOf, normalizeOf}
 use Rattle.plane.specs.declared.vector.Point.{Point}
@@ -33,8 +34,8 @@ inDomain v = sizeAtMost (v .x) two && sizeAtMost (v .y) two
 
 -- "`compute_normal` outside its domain is 4 with place 0 and a zero vector"
 abbrev pub normalAnswerOf : JoinDirection → NormalAnswer
-normalAnswerOf (Normal x y) = record { number = 0; place = 0; x = x; y = y }
-normalAnswerOf Refused = record { number = 4; place = 0; x = f32 0; y = f32 0 }
+normalAnswerOf (Normal x y) = record { number = numberOf accepted; place = 0; x = x; y = y }
+normalAnswerOf Refused = record { number = numberOf badCoordinate; place = 0; x = f32 0; y = f32 0 }
 
 unfoldable pub computeNormalOf : Point → Point → NormalAnswer
 computeNormalOf v1 v2 = let n = normalOf v1 v2 in normalAnswerOf (pick (inDomain v1 && inDomain v2) (Normal (n .x) (n .y)) Refused)

@@ -2,6 +2,7 @@
 use Prim.Native.Nat.{ℕ}
 use mathlib.Core.Bool.{Bool, true, false, cond, _||_}
 use lib.Dec.{ltb}
+use Rattle.refusals.specs.Numbers.{numberOf, accepted, longText, malformedText, largeNumber, readerRoom}
 use Rattle.path.specs.Verbs.{verbLimit}
 use Rattle.reader.specs.declared.answer.Reading.{Reading}
 use Rattle.reader.specs.declared.answer.Reading.the-variants.{Path, TooLong, OutOfForm, TooLarge, NoRoom}
@@ -16,7 +17,7 @@ textLimit = 16384
 
 -- "0 .. carries both counts (verbs and coordinates in the reader); the others carry zero."
 abbrev pub withCounts : ℕ → ℕ → ReadAnswer
-withCounts verbs coords = record { number = 0; place = 0; verbs = verbs; coords = coords }
+withCounts verbs coords = record { number = numberOf accepted; place = 0; verbs = verbs; coords = coords }
 
 abbrev pub withPlace : ℕ → ℕ → ReadAnswer
 withPlace number place = record { number = number; place = place; verbs = 0; coords = 0 }
@@ -24,10 +25,10 @@ withPlace number place = record { number = number; place = place; verbs = 0; coo
 -- the number, the place and both counts
 abbrev pub readAnswerOf : Reading → ReadAnswer
 readAnswerOf (Path verbs coords) = withCounts verbs coords
-readAnswerOf TooLong = withPlace 8 0
-readAnswerOf (OutOfForm i) = withPlace 9 i
-readAnswerOf (TooLarge i) = withPlace 10 i
-readAnswerOf NoRoom = withPlace 11 0
+readAnswerOf TooLong = withPlace (numberOf longText) 0
+readAnswerOf (OutOfForm i) = withPlace (numberOf malformedText) i
+readAnswerOf (TooLarge i) = withPlace (numberOf largeNumber) i
+readAnswerOf NoRoom = withPlace (numberOf readerRoom) 0
 
 abbrev pub isPath : Reading → Bool
 isPath (Path verbs coords) = true

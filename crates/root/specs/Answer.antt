@@ -4,6 +4,7 @@ use mathlib.Core.Bool.{false, not}
 use lib.IntN.{pos}
 use lib.Dec.{T}
 use lib.Ieee.{Float, fin}
+use Rattle.refusals.specs.Numbers.{numberOf, accepted, noRoot}
 use Rattle.root.specs.Root.{rootable, IsRoot}
 use Rattle.root.specs.declared.Answer.{Answer}
 use Rattle.root.specs.declared.Rooted.{Rooted}
@@ -15,10 +16,10 @@ zero = fin false 0 (pos 0)
 
 -- "13: root of a negative, -0, infinite or NaN", place 0; "13 gives +0"
 abbrev pub answerOf : Rooted → Answer
-answerOf (Root r) = record { number = 0; place = 0; value = r }
-answerOf Refused = record { number = 13; place = 0; value = zero }
+answerOf (Root r) = record { number = numberOf accepted; place = 0; value = r }
+answerOf Refused = record { number = numberOf noRoot; place = 0; value = zero }
 
 -- a is the answer to x: the root where there is one, else refusal 13
 pub record Answers (x : Float) (a : Answer) : Type 0 where
-  pub accepted : T (rootable x) → (a .number ≡ 0) × (a .place ≡ 0) × IsRoot x (a .value)
+  pub accepted : T (rootable x) → (a .number ≡ numberOf accepted) × (a .place ≡ 0) × IsRoot x (a .value)
   pub refused : T (not (rootable x)) → a ≡ answerOf Refused

@@ -6,6 +6,7 @@ use mathlib.Core.List.{List}
 use lib.Dec.{eqb}
 use lib.Ieee.{Float, binary32, ofBits}
 use lib.ListN.{take, replicate}
+use Rattle.refusals.specs.Numbers.{numberOf, accepted}
 use Rattle.path.specs.declared.options.Options.{Options}
 use Rattle.reader.specs.Answer.{readAnswerOf}
 use Rattle.reader.specs.Outcome.{Outcome}
@@ -27,7 +28,7 @@ pub record Drawing : Type 0 where
   pub triangles : List ℕ
 
 unfoldable pub byMesh : MeshAnswer → Drawn
-byMesh a = cond (eqb (a .number) 0) (Mesh (a .vertices) (a .triangles)) (Refused (a .number) (a .place))
+byMesh a = cond (eqb (a .number) (numberOf accepted)) (Mesh (a .vertices) (a .triangles)) (Refused (a .number) (a .place))
 
 -- the lists that the mesh goes to
 module _ (v : List Float) (t : List ℕ) where
@@ -41,7 +42,7 @@ module _ (v : List Float) (t : List ℕ) where
   unfoldable pub drawingOf : Outcome → Drawing
   drawingOf o =
       let a = readAnswerOf (o .answer) in
-      cond (eqb (a .number) 0) (strokedOf (take (a .verbs) (o .verbs)) (take (a .coords) (o .coords)))
+      cond (eqb (a .number) (numberOf accepted)) (strokedOf (take (a .verbs) (o .verbs)) (take (a .coords) (o .coords)))
       (record { drawn = Refused (a .number) (a .place); vertices = v; triangles = t })
 
 -- The reader has "room for 1,024 verbs, 2,048 coordinates", all zero before it. It allows one outcome, so there is one drawing.

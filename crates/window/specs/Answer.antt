@@ -2,6 +2,7 @@
 -- Assumes nothing.
 use Prim.Native.Nat.{ℕ, zero, suc}
 use mathlib.Core.List.{List, [], _∷_}
+use Rattle.refusals.specs.Numbers.{numberOf, accepted, windowRefused}
 use Rattle.endpoint.specs.Endpoint.{blankOf}
 use Rattle.endpoint.specs.declared.EndpointData.{EndpointData}
 use Rattle.window.specs.declared.answer.Change.{Change}
@@ -13,13 +14,13 @@ use Rattle.window.specs.declared.answer.Got.the-variants.{Found, Refused
 
 -- "12 from `get` an endpoint of zeros, Miter, both sides Single, no fold"
 abbrev pub getAnswerOf : Got → GetAnswer
-getAnswerOf (Found e) = record { number = 0; place = 0; endpoint = e }
-getAnswerOf Refused = record { number = 12; place = 0; endpoint = blankOf }
+getAnswerOf (Found e) = record { number = numberOf accepted; place = 0; endpoint = e }
+getAnswerOf Refused = record { number = numberOf windowRefused; place = 0; endpoint = blankOf }
 
 -- `replace_last` answers a number and a place alone
 abbrev pub changeAnswerOf : Change → ChangeAnswer
-changeAnswerOf change.Done = record { number = 0; place = 0 }
-changeAnswerOf change.Refused = record { number = 12; place = 0 }
+changeAnswerOf change.Done = record { number = numberOf accepted; place = 0 }
+changeAnswerOf change.Refused = record { number = numberOf windowRefused; place = 0 }
 
 -- what reading at i answers, where these are held, oldest first
 unfoldable pub gotOf : List EndpointData → ℕ → GetAnswer

@@ -1,0 +1,48 @@
+-- Document 01's "What each number means": the one place where the numbers stand. Assumes nothing.
+use Prim.Native.Nat.{ℕ}
+
+pub data Meaning : Type 0 where
+  -- "accepted"
+  accepted : Meaning
+  -- "an option outside its range, NaN included"
+  outOfRange : Meaning
+  -- "more than 4,096 verbs"
+  tooManyVerbs : Meaning
+  -- "unknown verb, begin inside a run, line or end outside, list ends inside; or coordinates not exactly two per begin or line"
+  misplacedVerb : Meaning
+  -- "a coordinate not finite or too large"
+  badCoordinate : Meaning
+  -- "an edge whose offset points on a side have f32 squared distance below 2^-40"
+  shortEdge : Meaning
+  -- "too few vertex places"
+  vertexRoom : Meaning
+  -- "too few triangle places"
+  triangleRoom : Meaning
+  -- "path text over 16,384 bytes"
+  longText : Meaning
+  -- "text not in the form below"
+  malformedText : Meaning
+  -- "a number beyond 32,768 in size"
+  largeNumber : Meaning
+  -- "reader's lent verb or coordinate list too short, or over 4,096 verbs"
+  readerRoom : Meaning
+  -- "window: `get` at or past the count; `replace_last` when empty"
+  windowRefused : Meaning
+  -- "root of a negative, -0, infinite or NaN"
+  noRoot : Meaning
+
+abbrev pub numberOf : Meaning → ℕ
+numberOf accepted = 0
+numberOf outOfRange = 1
+numberOf tooManyVerbs = 2
+numberOf misplacedVerb = 3
+numberOf badCoordinate = 4
+numberOf shortEdge = 5
+numberOf vertexRoom = 6
+numberOf triangleRoom = 7
+numberOf longText = 8
+numberOf malformedText = 9
+numberOf largeNumber = 10
+numberOf readerRoom = 11
+numberOf windowRefused = 12
+numberOf noRoot = 13
