@@ -1,5 +1,5 @@
 -- The machine goes on as long as the text begins one of the form, and stops at the place of refusal 9. Assumes nothing.
-use Prim.Native.Nat.{ℕ, suc, _+_, _≤_, _<_}
+use Prim.Native.Nat.{ℕ, suc, _≤_, _<_}
 use mathlib.Core.Path.{_≡_, refl, sym, ap, _∙_, subst}
 use mathlib.Core.Bool.{Bool, true, false, cond}
 use mathlib.Core.List.{List, [], _∷_, _++_}
@@ -8,7 +8,7 @@ use lib.ListN.{length, take}
 use Rattle.form.specs.declared.machine.Mode.{Mode}
 use Rattle.form.specs.declared.machine.Mode.the-variants.{Start, Closed, WantX, SignX, DigitX, GapX, WantY, SignY, DigitY, GapY, Lost}
 use Rattle.form.specs.Bytes.{classOf}
-use Rattle.form.specs.Form.{text, HasForm, Begins, Wrong}
+use Rattle.form.specs.Form.{HasForm, Begins, Wrong}
 use Rattle.form.specs.Machine.{nextOf, final, isLost, mayEnd, stop}
 use Rattle.form.proofs.Taken.{form-ends}
 use Rattle.form.proofs.Parse.{never, taken-form}

@@ -1,18 +1,16 @@
 -- Demand 3 of the whole mesh: each run stands as its own facts say, and the answer's counts decide about room. Assumes nothing.
 use Prim.Native.Nat.{ℕ, _+_, _*_, _/_, _≤_, _<_}
-use mathlib.Core.Path.{_≡_, refl, sym, ap, _∙_}
-use mathlib.Core.Bool.{true, false}
+use mathlib.Core.Path.{_≡_, refl}
 use mathlib.Core.List.{List, [], _∷_}
 use native.Mathlib.Omega.{arith}
 use borrow.Author.Tests.{lt-ltb, le-ltb}
 use lib.Ieee.{Float}
-use lib.ListN.{length, take, drop}
+use lib.ListN.{length}
 use Rattle.endpoint.specs.declared.Endpoint.{Endpoint}
 use Rattle.lists.specs.Over.{over}
 use Rattle.lists.proofs.Laws.{take-over, drop-over}
-use Rattle.path.specs.Path.{checkedOf, Sound}
+use Rattle.path.specs.Path.{Sound}
 use Rattle.path.specs.Runs.{Run}
-use Rattle.path.specs.declared.Checked.the-variants.{Accepted}
 use Rattle.path.specs.declared.options.Options.{Options}
 use Rattle.path.specs.declared.options.Stroke.{Stroke}
 use Rattle.path.proofs.Laws.{sound}
@@ -24,11 +22,11 @@ use Rattle.strip.specs.Triangle.{flatT}
 use Rattle.strip.proofs.Triangles.{length-flatT}
 use Rattle.run.specs.Run.{shapeCount}
 use Rattle.run.proofs.Facts.{run-covers, run-numbers}
-use Rattle.drive.specs.Runs.{runsOf, drawnOf, meshVertices, meshCount, meshTriangles, meshEdges, meshCounts}
+use Rattle.drive.specs.Runs.{runsOf, drawnOf, meshVertices, meshCount, meshTriangles, meshEdges}
 use Rattle.drive.proofs.Runs.{length-vertices}
 use Rattle.mesh.specs.Answer.{judgedOf}
-use Rattle.mesh.specs.Demand3.{EarnsNone, RunStands, AllStand, Written, Rooms, Demand3}
-use Rattle.mesh.specs.Mesh.{Outcome, refused, roomFor, drawn, acceptedOf, strokedOf, outcomeOf}
+use Rattle.mesh.specs.Demand3.{EarnsNone, AllStand, Written, Rooms, Demand3}
+use Rattle.mesh.specs.Mesh.{Outcome, refused, acceptedOf, strokedOf, outcomeOf}
 use Rattle.mesh.specs.declared.answer.Meshed.the-variants.{Mesh, VertexRoom, TriangleRoom}
 
 -- ---- run by run

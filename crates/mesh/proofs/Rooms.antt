@@ -24,7 +24,7 @@ use Rattle.drive.specs.Passes.{Paired, undrawn, Has}
 use Rattle.drive.specs.Runs.{runsOf, meshVertices, meshCount, meshTriangles, meshCounts}
 use Rattle.drive.proofs.Runs.{runs-bounded}
 use Rattle.mesh.specs.Answer.{isMesh, judgedOf}
-use Rattle.mesh.specs.Mesh.{roomFor, drawn, acceptedOf}
+use Rattle.mesh.specs.Mesh.{roomFor, acceptedOf}
 use Rattle.mesh.specs.declared.answer.Meshed.the-variants.{Mesh, ShortEdge, VertexRoom, TriangleRoom}
 
 pub sound-paired : (vs : List ℕ) (cs : List Float) → Sound vs cs → Paired vs cs

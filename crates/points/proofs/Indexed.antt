@@ -1,17 +1,12 @@
 -- Endpoints by their index among a run's coordinates. Assumes nothing.
-use Prim.Native.Nat.{ℕ, zero, suc, _+_, _-_, _*_, _/_, _<_, _≤_}
-use mathlib.Core.Path.{_≡_, refl, sym, ap, _∙_}
-use mathlib.Core.Bool.{Bool, true, false, cond, and-false}
-use mathlib.Core.List.{List, [], _∷_, _++_}
+use Prim.Native.Nat.{ℕ, zero, suc, _+_, _-_, _*_, _/_, _≤_}
+use mathlib.Core.Path.{_≡_, refl, ap, _∙_}
+use mathlib.Core.List.{List, [], _∷_}
 use native.Mathlib.Omega.{arith}
-use lib.ListN.{length, take, drop, getD, length-drop, drop-of-length-le}
-use lib.Seq.{take-suc, getD-drop, take-all}
-use lib.Ieee.{Float, nan}
+use lib.ListN.{length, take, drop, getD}
+use lib.Ieee.{Float}
 use Rattle.endpoint.specs.declared.Endpoint.{Endpoint}
-use Rattle.course.specs.Kept.{near, keptBehind, allNear, trimmed, keptPoints}
-use Rattle.points.specs.declared.Look.{Look}
-use Rattle.points.specs.Points.{endpoint, endpointsOf, endpointAt}
-use Rattle.points.specs.Kept.{FirstFar, lookedOf, Ended, runFrom}
+use Rattle.points.specs.Points.{endpointsOf, endpointAt}
 
 pub points-at : (p : List Float) (k i : ℕ) → 2 * i + 2 ≤ length p → drop i (endpointsOf k p) ≡ endpointAt p k i ∷ drop (i + 1) (endpointsOf k p)
 unfolding endpointsOf

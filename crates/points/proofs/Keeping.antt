@@ -1,17 +1,9 @@
 -- Keeping and trimming, one point more at the end. Assumes nothing.
-use Prim.Native.Nat.{ℕ, zero, suc, _+_, _-_, _*_, _/_, _<_, _≤_}
-use mathlib.Core.Path.{_≡_, refl, sym, ap, _∙_}
+use mathlib.Core.Path.{_≡_, ap}
 use mathlib.Core.Bool.{Bool, true, false, cond, and-false}
 use mathlib.Core.List.{List, [], _∷_, _++_}
-use native.Mathlib.Omega.{arith}
-use lib.ListN.{length, take, drop, getD, length-drop, drop-of-length-le}
-use lib.Seq.{take-suc, getD-drop, take-all}
-use lib.Ieee.{Float, nan}
 use Rattle.endpoint.specs.declared.Endpoint.{Endpoint}
-use Rattle.course.specs.Kept.{near, keptBehind, allNear, trimmed, keptPoints}
-use Rattle.points.specs.declared.Look.{Look}
-use Rattle.points.specs.Points.{endpoint, endpointsOf, endpointAt}
-use Rattle.points.specs.Kept.{FirstFar, lookedOf, Ended, runFrom}
+use Rattle.course.specs.Kept.{near, keptBehind, allNear, trimmed}
 
 pub keep-near : (l p : Endpoint) (ps : List Endpoint) → near l p ≡ true → keptBehind l (p ∷ ps) ≡ keptBehind l ps
 unfolding keptBehind

@@ -1,19 +1,19 @@
 -- The looks for the second and for the last kept point, and what they say of the kept points. Assumes nothing.
-use Prim.Native.Nat.{ℕ, zero, suc, _+_, _-_, _*_, _/_, _<_, _≤_}
+use Prim.Native.Nat.{ℕ, suc, _+_, _-_, _*_, _/_, _<_, _≤_}
 use mathlib.Core.Path.{_≡_, refl, sym, ap, _∙_}
-use mathlib.Core.Bool.{Bool, true, false, cond, and-false}
+use mathlib.Core.Bool.{Bool, true, false, cond}
 use mathlib.Core.List.{List, [], _∷_, _++_}
 use native.Mathlib.Omega.{arith}
-use lib.ListN.{length, take, drop, getD, length-drop, drop-of-length-le}
+use lib.ListN.{length, take, drop, length-drop, drop-of-length-le}
 use lib.Seq.{take-suc, getD-drop, take-all}
-use lib.Ieee.{Float, nan}
+use lib.Ieee.{Float}
 use Rattle.endpoint.specs.declared.Endpoint.{Endpoint}
-use Rattle.course.specs.Kept.{near, keptBehind, allNear, trimmed, keptPoints}
+use Rattle.course.specs.Kept.{near, keptBehind, trimmed, keptPoints}
 use Rattle.points.specs.declared.Look.{Look}
-use Rattle.points.specs.Points.{endpoint, endpointsOf, endpointAt}
+use Rattle.points.specs.Points.{endpointsOf, endpointAt}
 use Rattle.points.specs.Kept.{FirstFar, lookedOf, Ended, runFrom}
 use Rattle.points.proofs.Indexed.{points-at, points-length, points-get, points-take, points-first}
-use Rattle.points.proofs.Keeping.{keep-near, keep-far, lastKept, last-near, last-far, trim-near, trim-far}
+use Rattle.points.proofs.Keeping.{keep-far, lastKept, last-near, last-far, trim-near, trim-far}
 
 -- how far the look for the last point left of a closed run has come
 pub record Ending (p : List Float) (k : ℕ) (l : Look) (i : ℕ) : Type 0 where

@@ -1,13 +1,12 @@
 -- What is drawn, by an answer's number: a refusal where it is not 0, else what the next call makes of it. Assumes nothing.
 use Prim.Native.Nat.{ℕ, zero, suc, min}
-use mathlib.Core.Path.{_≡_, refl, sym, ap, _∙_}
+use mathlib.Core.Path.{_≡_, sym, ap, _∙_}
 use mathlib.Core.Bool.{true, false}
 use mathlib.Core.List.{List, [], _∷_}
 use native.Mathlib.Nat.{zero-min, min-zero, suc-min-suc}
 use lib.Dec.{eqb}
 use lib.Ieee.{Float, binary32, ofBits}
 use lib.ListN.{length, take, replicate}
-use Rattle.path.specs.declared.options.Options.{Options}
 use Rattle.reader.specs.Answer.{readAnswerOf}
 use Rattle.reader.specs.Outcome.{Outcome}
 use Rattle.reader.specs.Reads.{Reads}

@@ -1,7 +1,7 @@
 -- `reader::read` meets its contract. Assumes nothing.
 use borrow.Author.Needs.{needs}
 use mathlib.Core.Path.{sym, _∙_}
-use Rattle.reader.proofs.Meets.{long-so, scan-so, allowed, meets}
+use Rattle.reader.proofs.Meets.{long-so, scan-so, allowed}
 use Rattle.reader.proofs.read.Statement.{statement}
 use Rattle.reader.proofs.read.Tie as tie
 

@@ -1,6 +1,5 @@
 -- `drive::count_runs::count_verb` meets its contract. Assumes nothing.
 use borrow.Author.Needs.{needs}
-use Prim.Native.Nat.{_-_}
 use native.Mathlib.Omega.{arith}
 use lib.ListN.{length-take, length-drop}
 use Rattle.points.specs.Points.{endpointsOf}
