@@ -87,9 +87,6 @@ idle-digit = record { moves = refl; lines = refl; closes = refl; ends = refl }
 idle-gap : Idle GapY
 idle-gap = record { moves = refl; lines = refl; closes = refl; ends = refl }
 
-abbrev Idles : List ℕ → Mode → Type 0
-Idles r m = (n : Mode) × Idle n × (final m r ≡ final n r)
-
 -- white space after a pair
 settles : (bs : Blanks) (r : List ℕ) → (n : Mode) × Idle n × (final DigitY (bytes bs r) ≡ final n r)
 settles [] r = (DigitY, idle-digit, refl)

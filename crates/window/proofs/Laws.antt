@@ -4,11 +4,11 @@ use Prim.Native.Nat.{ℕ, zero, suc, _-_, _<_, _≤_}
 use mathlib.Core.Path.{_≡_, refl, sym, ap, _∙_}
 use mathlib.Core.List.{List, [], _∷_, _++_}
 use native.Mathlib.Omega.{arith}
-use lib.ListN.{length, drop, getD, length-append, length-take}
+use lib.ListN.{length, drop, getD, length-append}
 use lib.Seq.{drop-append-le}
 use Rattle.endpoint.specs.declared.EndpointData.{EndpointData}
 use Rattle.window.specs.Answer.{getAnswerOf, changeAnswerOf, gotOf, replacedAnswerOf}
-use Rattle.window.specs.Window.{items, held, lastThree, lastReplaced, ReplacesLast}
+use Rattle.window.specs.Window.{items, lastThree, lastReplaced, ReplacesLast}
 use Rattle.window.specs.declared.answer.Got.{Got}
 use Rattle.window.specs.declared.answer.Got.the-variants.{Found, Refused}
 use Rattle.window.specs.declared.answer.Change.{Change}
@@ -17,10 +17,6 @@ use Rattle.window.specs.declared.answer.ChangeAnswer.{ChangeAnswer}
 use Rattle.window.specs.declared.answer.GetAnswer.{GetAnswer}
 use Rattle.window.specs.declared.buffer.PointBuffer.{PointBuffer}
 use Rattle.window.specs.declared.buffer.Replaced.{Replaced}
-
-pub length-items : (w : PointBuffer) → length (items w) ≤ 3
-unfolding held
-length-items w = simp length-take (omega arith)
 
 -- ---- what is held
 module _ {A : Type 0} where
@@ -40,21 +36,11 @@ module _ {A : Type 0} where
       let n : length xs - 2 ≡ 0 = omega arith in
       rw (lastThree-snoc, n)
 
-  -- of three the oldest gives way
-  pub lastThree-full : (xs : List A) (e : A) → length xs ≡ 3 → lastThree (xs ++ (e ∷ [])) ≡ drop 1 xs ++ (e ∷ [])
-  lastThree-full xs e h =
-      let n : length xs - 2 ≡ 1 = omega arith in
-      rw (lastThree-snoc, n)
-
   pub lastReplaced-snoc : (xs : List A) (x e : A) → lastReplaced (xs ++ (x ∷ [])) e ≡ xs ++ (e ∷ [])
   unfolding lastReplaced
   lastReplaced-snoc [] x e = refl
   lastReplaced-snoc (y ∷ []) x e = refl
   lastReplaced-snoc (y ∷ z ∷ xs) x e = ap (λ (l : List A). y ∷ l) (lastReplaced-snoc (z ∷ xs) x e)
-
-  -- to replace what was just pushed is to push the replacement instead
-  pub lastReplaced-pushed : (xs : List A) (e f : A) → lastReplaced (lastThree (xs ++ (e ∷ []))) f ≡ lastThree (xs ++ (f ∷ []))
-  lastReplaced-pushed xs e f = rw (lastThree-snoc xs e, lastThree-snoc xs f, lastReplaced-snoc)
 
 -- ---- what is read
 pub gotOf-found : (xs : List EndpointData) (i : ℕ) (d : EndpointData) → i < length xs → gotOf xs i ≡ getAnswerOf (Found (getD xs i d))
@@ -69,19 +55,6 @@ unfolding gotOf
 gotOf-past [] i h = refl
 gotOf-past (x ∷ xs) zero h = absurd (omega arith)
 gotOf-past (x ∷ xs) (suc i) h = gotOf-past xs i (omega arith)
-
-gotOf-snoc : (xs : List EndpointData) (e : EndpointData) → gotOf (xs ++ (e ∷ [])) (length xs) ≡ getAnswerOf (Found e)
-unfolding gotOf
-gotOf-snoc [] e = refl
-gotOf-snoc (x ∷ xs) e = gotOf-snoc xs e
-
--- what was just pushed is the last
-pub gotOf-newest : (xs : List EndpointData) (e : EndpointData)
-    → gotOf (lastThree (xs ++ (e ∷ []))) (length (lastThree (xs ++ (e ∷ []))) - 1) ≡ getAnswerOf (Found e)
-gotOf-newest xs e =
-    let ys = drop (length xs - 2) xs in
-    let n : length (ys ++ (e ∷ [])) - 1 ≡ length ys = simp length-append (omega arith) in
-    rw (lastThree-snoc, n) (gotOf-snoc ys e)
 
 -- ---- what replacing the last answers
 pub replacedAnswerOf-some : (xs : List EndpointData) → 0 < length xs → replacedAnswerOf xs ≡ changeAnswerOf change.Done
