@@ -6,7 +6,7 @@ use native.Mathlib.Nat.{le-trans, le-of-eq, le-of-lt, lt-of-not-le, lt-of-lt-of-
 use native.Mathlib.Decide.{decLe}
 use native.Mathlib.Omega.{arith}
 use mathlib.Core.Bool.{Bool, true, false, not}
-use lib.Dec.{T, isLe, isEq, leb, eqb, leb→le, nleb→lt, eqb→eq}
+use lib.Dec.{T, isLe, isEq, leb, eqb, leb→le, nleb→lt, eqb→eq, lit<}
 use lib.Pow.{pow-add, pow-pos, pow-mono}
 use lib.Ieee.{size, nearest}
 use lib.Ieee.Digits.{size-lt, size-le, size-reaches}
@@ -149,3 +149,56 @@ module _ (n c : ℕ) (C : 0 < c) where
     where
       with-it : (x y u : ℕ) → x ≡ y → 2 * n ≤ 2 * y + u → u ≤ n → n ≤ 2 * x
       with-it x y u s b l = omega arith
+
+-- ---- three scales, in units of 2 ^ -149: the number 1; 2 ^ -11, in which distances are measured; and its square 2 ^ -22
+unfoldable pub one : ℕ
+one = 2 ^ 149
+
+unfoldable pub grain : ℕ
+grain = 2 ^ 138
+
+unfoldable pub speck : ℕ
+speck = 2 ^ 127
+
+pub one-pos : 0 < one
+unfolding one
+one-pos = pow-pos 149
+
+pub one-grains : one ≡ 2048 * grain
+unfolding one grain
+one-grains = refl
+
+pub grains-square : grain * grain ≡ speck * one
+unfolding one grain speck
+grains-square = refl
+
+module _ (k n c : ℕ) (K : k < 2 ^ 24) (C : 0 < c) where
+  pub high-ones : n ≤ k * one * c → rounded n c ≤ k * one
+  unfolding one
+  high-ones h = keeps-high n c C k 149 K h
+
+  pub high-grains : n ≤ k * grain * c → rounded n c ≤ k * grain
+  unfolding grain
+  high-grains h = keeps-high n c C k 138 K h
+
+  pub low-grains : k * grain * c ≤ n → k * grain ≤ rounded n c
+  unfolding grain
+  low-grains h = keeps-low n c C k 138 K h
+
+  pub high-specks : n ≤ k * speck * c → rounded n c ≤ k * speck
+  unfolding speck
+  high-specks h = keeps-high n c C k 127 K h
+
+  pub low-specks : k * speck * c ≤ n → k * speck ≤ rounded n c
+  unfolding speck
+  low-specks h = keeps-low n c C k 127 K h
+
+-- below 65,536 a place is at most 8 grains
+pub near-ones : (n c : ℕ) → 0 < c → n < 65536 * one * c → (2 * (rounded n c * c) ≤ 2 * n + 8 * grain * c) × (2 * n ≤ 2 * (rounded n c * c) + 8 * grain * c)
+unfolding one grain
+near-ones n c C h = near n c C 141 h
+
+-- some squares are far above the range of coordinates, and far below the largest f32
+pub high-limit : (n c : ℕ) → 0 < c → n ≤ 2 ^ 100 * one * c → rounded n c ≤ 2 ^ 100 * one
+unfolding one
+high-limit n c C h = keeps-high n c C 1 249 (lit< tt) h

@@ -7,7 +7,7 @@ use native.Mathlib.Nat.{le-trans, le-of-eq, le-of-lt, lt-irrefl, lt-of-lt-of-le,
 use native.Mathlib.Omega.{arith}
 use mathlib.Core.Bool.{Bool, true, false, not, _&&_, _||_, Bool·beq, cond, true≢false}
 use lib.IntN.{ℤ}
-use lib.Dec.{T, leb, ltb, eqb, ltb→lt, lt→ltb, nltb→le, eqb→eq}
+use lib.Dec.{T, leb, ltb, eqb, ltb→lt, lt→ltb, nltb→le, eqb→eq, lit<}
 use lib.Pow.{pow-pos}
 use lib.Ieee.{Float, nan, inf, fin, binary32, unlike, up, down, units, round, neg, sum, add, sub, mul, div, lt}
 use lib.Ieee.Fits.{up-pos, down-pos, round-is}
@@ -15,7 +15,7 @@ use lib.Ieee.Exact.{HasValue, units-val}
 use lib.Ieee.Order.{drop, kept}
 use lib.Ieee.Scale.{round-same, finite}
 use lib.Ieee.Positive.{num, den, first-pos}
-use Rattle.far.proofs.Rounding.{rounded}
+use Rattle.far.proofs.Rounding.{rounded, one}
 
 -- ---- a value as a fraction
 abbrev pub sign : Float → Bool
@@ -41,11 +41,11 @@ negated (inf t) s a c h = absurd h
 negated (fin t m e) s a c h = (ap not (h .0), h .1)
 
 -- ---- what `round` makes
-pub round-value : (s : Bool) (a c : ℕ) → rounded (a * 2 ^ 149) c < 2 ^ 277 → HasValue (round binary32 s a c) s (rounded (a * 2 ^ 149) c) (2 ^ 149)
-unfolding rounded
+pub round-value : (s : Bool) (a c : ℕ) → rounded (a * one) c ≤ 2 ^ 100 * one → HasValue (round binary32 s a c) s (rounded (a * one) c) one
+unfolding rounded one
 round-value s a c h =
     subst (λ (z : Float). HasValue z s (kept 24 (a * 2 ^ 149) c * 2 ^ drop 24 (a * 2 ^ 149) c) (2 ^ 149)) (sym (round-is binary32 s a c))
-    (units-val binary32 s (kept 24 (a * 2 ^ 149) c) (drop 24 (a * 2 ^ 149) c) h)
+    (units-val binary32 s (kept 24 (a * 2 ^ 149) c) (drop 24 (a * 2 ^ 149) c) (lt-of-le-of-lt h (lit< tt)))
 
 -- ---- the product
 pub mul-round : (x y : Float) (s t : Bool) (a c b d : ℕ) → 0 < c → 0 < d → HasValue x s a c → HasValue y t b d → mul binary32 x y ≡ round binary32 (unlike s t) (a * b) (c * d)
