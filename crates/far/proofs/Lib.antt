@@ -1,3 +1,4 @@
 pub mod Rounding
 pub mod Values
 pub mod Sums
+pub mod Squares

@@ -2,7 +2,7 @@
 -- most, and it does not halve. Assumes nothing.
 use mathlib.Core.Path.{_≡_, refl, sym, ap, _∙_, subst}
 use Prim.Native.Nat.{ℕ, zero, suc, _+_, _-_, _*_, _/_, _%_, _^_, _≤_, _<_, compare, Ordering, Ordering·lt, Ordering·eq, Ordering·gt}
-use native.Mathlib.Nat.{le-trans, le-of-eq, le-of-lt, lt-of-not-le, lt-of-lt-of-le, lt-of-le-of-lt, mul-assoc, mul-comm, mul-right-comm, mul-le-mul-right, mul-le-mul-left, mul-lt-mul-of-pos-right, le-of-mul-le-mul-right, mul-pos, mod-lt, div-add-mod', le-div-iff-mul-le, div-lt-iff-lt-mul}
+use native.Mathlib.Nat.{le-trans, le-of-eq, le-of-lt, lt-of-not-le, lt-of-lt-of-le, lt-of-le-of-lt, one-mul, mul-assoc, mul-comm, mul-right-comm, mul-le-mul-right, mul-le-mul-left, mul-lt-mul-of-pos-right, le-of-mul-le-mul-right, mul-pos, mod-lt, div-add-mod', le-div-iff-mul-le, div-lt-iff-lt-mul}
 use native.Mathlib.Decide.{decLe}
 use native.Mathlib.Omega.{arith}
 use mathlib.Core.Bool.{Bool, true, false, not}
@@ -198,7 +198,10 @@ pub near-ones : (n c : ℕ) → 0 < c → n < 65536 * one * c → (2 * (rounded 
 unfolding one grain
 near-ones n c C h = near n c C 141 h
 
--- some squares are far above the range of coordinates, and far below the largest f32
-pub high-limit : (n c : ℕ) → 0 < c → n ≤ 2 ^ 100 * one * c → rounded n c ≤ 2 ^ 100 * one
+-- the squares of coordinates are far above their range, and far below the largest f32
+pub high-powers : (j n c : ℕ) → 0 < c → n ≤ 2 ^ j * one * c → rounded n c ≤ 2 ^ j * one
 unfolding one
-high-limit n c C h = keeps-high n c C 1 249 (lit< tt) h
+high-powers j n c C h = subst (λ (x : ℕ). n ≤ x * c → rounded n c ≤ x) (power j) (keeps-high n c C 1 (j + 149) (lit< tt)) h
+  where
+    power : (j : ℕ) → 1 * 2 ^ (j + 149) ≡ 2 ^ j * 2 ^ 149
+    power j = one-mul (2 ^ (j + 149)) ∙ pow-add 2 j 149

@@ -179,7 +179,7 @@ module _ (a b : Float) (G : Gap a b) where
   abbrev pub distance : ℕ
   distance = rounded (G .w * one) (G .c)
 
-  wide : G .w ≤ 65536 * G .c
+  pub wide : G .w ≤ 65536 * G .c
   wide = omega (arith, sum-le (G .sb) (G .B) (not (G .sa)) (G .A) (G .r) (G .w) (G .sums), G .first-in, G .second-in)
 
   pub difference : Made (sub binary32 b a) (G .r) (G .w) (G .c) 65536

@@ -141,6 +141,13 @@ module _ (A B k a b c : ℕ) (K : 0 < k) (C : 0 < c) (p : A * c ≡ a * k) (q : 
   sum-round false true = from-above (ltb A B) (ltb→lt A B) (nltb→le A B)
   sum-round true false = from-under (ltb A B) (ltb B A) (ltb→lt A B) (nltb→le A B) (nltb→le B A)
 
+-- two fractions x / p and y / q at the scale of both
+levelled : (x y p q a b c : ℕ) → x * c ≡ a * p → y * c ≡ b * q → (x * q * c ≡ a * (p * q)) × (y * p * c ≡ b * (p * q))
+levelled x y p q a b c h k = (
+  mul-right-comm x q c ∙ ap (λ (i : ℕ). i * q) h ∙ mul-assoc a p q,
+  mul-right-comm y p c ∙ ap (λ (i : ℕ). i * p) k ∙ mul-assoc b q p ∙ ap (λ (i : ℕ). b * i) (mul-comm q p),
+)
+
 pub add-round : (x y : Float) (s t : Bool) (a b c : ℕ) → 0 < c → HasValue x s a c → HasValue y t b c → Rounds (add binary32 x y) s a t b c
 unfolding add
 add-round nan y s t a b c C h k = absurd h
@@ -151,11 +158,23 @@ add-round (fin u m e) (fin v n g) s t a b c C h k =
     let X = m * up e * down g in
     let Y = n * up g * down e in
     let z = down e * down g in
-    let p : X * c ≡ a * z = mul-right-comm (m * up e) (down g) c ∙ ap (λ (i : ℕ). i * down g) (h .1) ∙ mul-assoc a (down e) (down g) in
-    let q : Y * c ≡ b * z = mul-right-comm (n * up g) (down e) c ∙ ap (λ (i : ℕ). i * down e) (k .1) ∙ mul-assoc b (down g) (down e) ∙ ap (λ (i : ℕ). b * i) (mul-comm (down g) (down e)) in
+    let l = levelled (m * up e) (n * up g) (down e) (down g) a b c (h .1) (k .1) in
     subst (λ (i : Bool). Rounds (sum binary32 i X v Y z) s a t b c) (sym (h .0))
     (subst (λ (i : Bool). Rounds (sum binary32 s X i Y z) s a t b c) (sym (k .0))
-    (sum-round X Y z a b c (mul-pos (down-pos e) (down-pos g)) C p q s t))
+    (sum-round X Y z a b c (mul-pos (down-pos e) (down-pos g)) C (l .0) (l .1) s t))
+
+-- of two that are not negative
+pub add-plain : (x y : Float) (a b c : ℕ) → 0 < c → HasValue x false a c → HasValue y false b c → add binary32 x y ≡ round binary32 false (a + b) c
+unfolding add sum
+add-plain nan y a b c C h k = absurd h
+add-plain (inf u) y a b c C h k = absurd h
+add-plain (fin u m e) nan a b c C h k = absurd k
+add-plain (fin u m e) (inf v) a b c C h k = absurd k
+add-plain (fin true m e) (fin v n g) a b c C h k = absurd (true≢false (h .0))
+add-plain (fin false m e) (fin true n g) a b c C h k = absurd (true≢false (k .0))
+add-plain (fin false m e) (fin false n g) a b c C h k =
+    let l = levelled (m * up e) (n * up g) (down e) (down g) a b c (h .1) (k .1) in
+    added (m * up e * down g) (n * up g * down e) (down e * down g) a b c (mul-pos (down-pos e) (down-pos g)) C (l .0) (l .1) false
 
 pub sub-round : (x y : Float) (s t : Bool) (a b c : ℕ) → 0 < c → HasValue x s a c → HasValue y t b c → Rounds (sub binary32 x y) s a (not t) b c
 unfolding sub
@@ -178,6 +197,5 @@ lt-value (fin false m e) (fin false n g) a b c C h k =
     let X = m * up e * down g in
     let Y = n * up g * down e in
     let z = down e * down g in
-    let p : X * c ≡ a * z = mul-right-comm (m * up e) (down g) c ∙ ap (λ (i : ℕ). i * down g) (h .1) ∙ mul-assoc a (down e) (down g) in
-    let q : Y * c ≡ b * z = mul-right-comm (n * up g) (down e) c ∙ ap (λ (i : ℕ). i * down e) (k .1) ∙ mul-assoc b (down g) (down e) ∙ ap (λ (i : ℕ). b * i) (mul-comm (down g) (down e)) in
-    lt-is X Y z a b c (mul-pos (down-pos e) (down-pos g)) C p q (ltb X Y) (ltb→lt X Y) (nltb→le X Y)
+    let l = levelled (m * up e) (n * up g) (down e) (down g) a b c (h .1) (k .1) in
+    lt-is X Y z a b c (mul-pos (down-pos e) (down-pos g)) C (l .0) (l .1) (ltb X Y) (ltb→lt X Y) (nltb→le X Y)
