@@ -2,3 +2,4 @@ pub mod Rounding
 pub mod Values
 pub mod Sums
 pub mod Squares
+pub mod Offsets
