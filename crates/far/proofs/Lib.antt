@@ -3,3 +3,5 @@ pub mod Values
 pub mod Sums
 pub mod Squares
 pub mod Offsets
+pub mod Edge
+pub mod Ranges

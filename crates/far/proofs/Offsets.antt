@@ -148,9 +148,6 @@ times t h u p =
     regroup k d = omega arith
 
 module _ (x y : Float) (s t : Bool) (g h : ℕ) (v : HasValue x s g one) (u : HasValue y t h one) (S : 0 < long g h) (w : HasValue (lengthOf x y) false (long g h) one) where
-  length : Float
-  length = rootOf (lengthOf x y)
-
   root : Root (lengthOf x y) (long g h)
   root = root-value (lengthOf x y) (long g h) (add-fits binary32 (mul binary32 x x) (mul binary32 y y)) w
 

@@ -104,7 +104,7 @@ short-small : 2 ^ 109 ≤ 1 * speck
 unfolding speck
 short-small = lit≤ tt
 
-speck-pos : 0 < speck
+pub speck-pos : 0 < speck
 unfolding speck
 speck-pos = pow-pos 127
 
@@ -118,8 +118,8 @@ module _ (x y : Float) (s t : Bool) (g h : ℕ) (v : HasValue x s g one) (p : g 
   not-near e = lt-value (lengthOf x y) (ofBits binary32 0x38800000) (long g h) (256 * speck) one one-pos (long-value x y s t g h v p u q) near-limit .0 e
 
   -- a component of two grains is enough
-  pub not-short : (2 * grain ≤ g) ⊎ (2 * grain ≤ h) → lt (lengthOf x y) (ofBits binary32 0x2b800000) ≡ false
-  not-short l =
+  pub two-grains : (2 * grain ≤ g) ⊎ (2 * grain ≤ h) → lt (lengthOf x y) (ofBits binary32 0x2b800000) ≡ false
+  two-grains l =
       let four : 4 * speck ≤ squared g + squared h = elim l [ inl i ↦ left (squared-low 2 g (lit< tt) i) | inr i ↦ right (squared-low 2 h (lit< tt) i) ] in
       lt-value (lengthOf x y) (ofBits binary32 0x2b800000) (long g h) (2 ^ 109) one one-pos (long-value x y s t g h v p u q) short-limit .1
       (le-trans short-small (le-trans (mul-le-mul-right speck (lit≤ tt)) (long-low g h 4 (lit< tt) four)))
