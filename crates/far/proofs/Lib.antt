@@ -5,3 +5,5 @@ pub mod Squares
 pub mod Offsets
 pub mod Edge
 pub mod Ranges
+pub mod Course
+pub mod Path
