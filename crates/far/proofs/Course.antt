@@ -1,6 +1,5 @@
 -- One run: of its kept points each is not near the one before, nor in a closed run the last near the first, so none of its legs is short. Assumes nothing.
-use mathlib.Core.Path.{_≡_, refl, sym, ap, _∙_, subst}
-use Prim.Native.Nat.{ℕ, suc}
+use mathlib.Core.Path.{_≡_, refl, sym, _∙_, subst}
 use mathlib.Core.Bool.{Bool, true, false, _&&_, cond, true≢false}
 use mathlib.Core.List.{List, [], _∷_, _++_, append-nil}
 use lib.Ieee.{Float}

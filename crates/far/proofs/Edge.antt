@@ -1,10 +1,10 @@
 -- An edge between two points that are not near is not short: the points beside its ends are not too near each other, on either side. Assumes nothing.
-use mathlib.Core.Path.{_≡_, refl, sym, ap, _∙_, subst}
+use mathlib.Core.Path.{_≡_}
 use mathlib.Core.Logic.{_⊎_, inl, inr}
-use Prim.Native.Nat.{ℕ, _+_, _*_, _^_, _≤_, _<_}
-use native.Mathlib.Nat.{le-trans, lt-of-lt-of-le, mul-pos}
+use Prim.Native.Nat.{ℕ, _+_, _*_, _≤_, _<_}
+use native.Mathlib.Nat.{lt-of-lt-of-le, mul-pos}
 use native.Mathlib.Omega.{arith}
-use mathlib.Core.Bool.{Bool, true, false, _||_}
+use mathlib.Core.Bool.{Bool, false, _||_}
 use lib.Dec.{lit<}
 use lib.Ieee.{Float, binary32, neg, add, sub, mul, div, lt, ofBits}
 use Rattle.root.specs.Compute.{rootOf}
@@ -14,8 +14,8 @@ use Rattle.endpoint.specs.declared.Endpoint.{Endpoint}
 use Rattle.join.specs.Edge.{edgeOf, edgeSideOf}
 use Rattle.course.specs.Kept.{nearOf}
 use Rattle.course.specs.Leg.{legOf, shortOf}
-use Rattle.far.proofs.Rounding.{one, grain, speck}
-use Rattle.far.proofs.Sums.{Within, Gap, gap, Apart, apart, distance, difference, Moved, moved}
+use Rattle.far.proofs.Rounding.{speck}
+use Rattle.far.proofs.Sums.{Within, Gap, gap, Apart, apart, distance, difference, moved}
 use Rattle.far.proofs.Squares.{squared, squared-low, long, long-low, speck-pos, lengthOf, two-grains, gap-value, near-apart, mirrored}
 use Rattle.far.proofs.Offsets.{Half, Offset, opposite, offset-x, offset-y}
 

@@ -1,25 +1,25 @@
 -- The offset of an edge is at most 24,576 in a component: the f32 length is at least a third of each component's size, so that the unit
 -- direction is at most 3, and the half width is at most 8,192. Assumes nothing.
-use mathlib.Core.Path.{_≡_, refl, sym, ap, _∙_, subst}
+use mathlib.Core.Path.{_≡_, refl, sym, subst}
 use mathlib.Core.Logic.{_⊎_, inl, inr}
-use Prim.Native.Nat.{ℕ, zero, suc, _+_, _*_, _/_, _^_, _≤_, _<_}
-use native.Mathlib.Nat.{le-trans, le-of-eq, le-of-lt, lt-of-not-le, lt-of-lt-of-le, mul-assoc, mul-comm, mul-right-comm, mul-le-mul, mul-le-mul-right, le-of-mul-le-mul-right, mul-pos}
+use Prim.Native.Nat.{ℕ, zero, suc, _+_, _*_, _^_, _≤_, _<_}
+use native.Mathlib.Nat.{le-trans, le-of-eq, le-of-lt, lt-of-not-le, mul-assoc, mul-le-mul, mul-le-mul-right, le-of-mul-le-mul-right, mul-pos}
 use native.Mathlib.Decide.{decLe}
 use native.Mathlib.Omega.{arith}
 use mathlib.Core.Bool.{Bool, true, false, not, true≢false}
-use lib.Dec.{T, lit<, lit≤}
-use lib.Ieee.{Float, nan, inf, fin, binary32, unlike, fits, neg, add, sub, mul, div}
+use lib.Dec.{T, lit<}
+use lib.Ieee.{Float, nan, inf, fin, binary32, unlike, fits, neg, mul, div}
 use lib.Ieee.Fits.{add-fits}
 use lib.Ieee.Exact.{HasValue}
 use lib.Ieee.Scale.{finite}
 use lib.Ieee.Positive.{num, den, den-pos}
-use Rattle.root.specs.Root.{rootable, units, square, IsRoot, Close}
+use Rattle.root.specs.Root.{rootable, units}
 use Rattle.root.specs.Compute.{rootOf}
 use Rattle.root.proofs.Units.{units-of, units-exact}
 use Rattle.root.proofs.Computed.{root-is, close}
 use Rattle.far.proofs.Rounding.{rounded, one, one-pos, not-halved}
 use Rattle.far.proofs.Values.{sign, own, negated, mul-round, div-round}
-use Rattle.far.proofs.Sums.{Made, made}
+use Rattle.far.proofs.Sums.{made}
 use Rattle.far.proofs.Squares.{squared, long, lengthOf}
 
 -- ---- the squared length is no less than a quarter of a component's square
@@ -107,8 +107,7 @@ root-value : (x : Float) (n : ℕ) → T (fits binary32 x) → HasValue x false 
 unfolding one
 root-value x n f v =
     let p = plain x n one v in
-    let i = root-is x f p in
-    (
+    let i = root-is x f p in (
       units (rootOf x),
       rooted (rootOf x) (i .held) (i .plain),
       subst (λ (m : ℕ). 281474976710656 * (m * 2 ^ 149) ≤ 16777217 * units (rootOf x) * (16777217 * units (rootOf x))) (units-of x n v) (close x f (rootOf x) p i .high),
@@ -140,8 +139,8 @@ times : (t h : Float) → Unit-in t → Half h → Offset (mul binary32 t h)
 times t h u p =
     let e = mul-round t h (u .0) (sign h) (u .1) one (num h) (den h) one-pos (den-pos h) (u .2) (own h (p .0)) in
     let m =
-        made (mul binary32 t h) (unlike (u .0) (sign h)) (u .1 * num h) (one * den h) 24576 (mul-pos one-pos (den-pos h)) (lit< tt) e
-        (le-trans (mul-le-mul (u .3) (p .1)) (le-of-eq (regroup one (den h)))) in
+    made (mul binary32 t h) (unlike (u .0) (sign h)) (u .1 * num h) (one * den h) 24576 (mul-pos one-pos (den-pos h)) (lit< tt) e
+    (le-trans (mul-le-mul (u .3) (p .1)) (le-of-eq (regroup one (den h)))) in
     record { s = unlike (u .0) (sign h); size = rounded (u .1 * num h * one) (one * den h); value = m .0; within = m .1 }
   where
     regroup : (k d : ℕ) → 3 * k * (8192 * d) ≡ 24576 * (k * d)

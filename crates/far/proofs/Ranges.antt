@@ -1,13 +1,11 @@
 -- What the checks of a call tell of its numbers: an accepted coordinate is finite and at most 32,768 in size, and the half width of accepted
 -- options is finite and at most 8,192. Assumes nothing.
-use mathlib.Core.Path.{_≡_, refl, sym, ap, _∙_, subst}
-use mathlib.Core.Logic.{_⊎_, inl, inr}
-use Prim.Native.Nat.{ℕ, _+_, _*_, _^_, _≤_, _<_}
-use native.Mathlib.Nat.{le-trans, le-of-eq, le-of-lt, mul-assoc, mul-comm, mul-right-comm, mul-le-mul-right, le-of-mul-le-mul-right, mul-pos}
+use mathlib.Core.Path.{_≡_, refl, sym, subst}
+use Prim.Native.Nat.{ℕ, _*_, _≤_, _<_}
+use native.Mathlib.Nat.{le-trans, le-of-eq, le-of-lt, mul-right-comm, mul-le-mul-right, le-of-mul-le-mul-right, mul-pos}
 use native.Mathlib.Omega.{arith}
-use mathlib.Core.Bool.{Bool, true, false, not, _&&_, _||_, true≢false, false≢true}
-use lib.IntN.{ℤ}
-use lib.Dec.{T, ltb, eqb, ltb→lt, eqb→eq, lit<, lit≤}
+use mathlib.Core.Bool.{Bool, true, false, _&&_, _||_, false≢true}
+use lib.Dec.{T, ltb, eqb, ltb→lt, eqb→eq, lit<}
 use lib.Ieee.{Float, nan, inf, fin, binary32, up, down, unlike, neg, mul, lt, eq, le, ofBits}
 use lib.Ieee.Fits.{and-l, and-r}
 use lib.Ieee.Exact.{HasValue}
@@ -18,7 +16,6 @@ use Rattle.path.specs.Coordinates.{coordinateIn}
 use Rattle.path.specs.Options.{within, widthIn, limitIn, joinIn, capIn, inRange, preparedOf, strokeOf}
 use Rattle.path.specs.declared.options.Options.{Options}
 use Rattle.path.specs.declared.options.Stroke.{Stroke}
-use Rattle.path.specs.declared.options.StrokeAnswer.{StrokeAnswer}
 use Rattle.path.specs.declared.options.StrokeAnswer.the-variants as answer
 use Rattle.far.proofs.Rounding.{rounded, one, one-pos}
 use Rattle.far.proofs.Values.{sign, own, mul-round}

@@ -1,18 +1,18 @@
--- The f32 squared length of a vector by the sizes of its components: it is above a bound exactly where a component is, up to factors that are left.
--- So two points that are not near are ten grains apart in a component, and points that are two grains apart in one are not too near. Assumes nothing.
+-- The f32 squared length of a vector, by the sizes of its components. Two points that are not near are ten grains apart in a component; two points
+-- that are two grains apart in a component are not too near; and of two points the squared distance is the same either way. Assumes nothing.
 use mathlib.Core.Path.{_≡_, refl, sym, ap, _∙_, subst}
 use mathlib.Core.Logic.{_⊎_, inl, inr}
 use Prim.Native.Nat.{ℕ, _+_, _*_, _^_, _≤_, _<_}
-use native.Mathlib.Nat.{le-trans, le-of-eq, le-of-lt, lt-of-not-le, mul-assoc, mul-comm, mul-right-comm, mul-le-mul, mul-le-mul-right, mul-pos}
+use native.Mathlib.Nat.{le-trans, le-of-eq, le-of-lt, lt-of-not-le, mul-le-mul, mul-le-mul-right, mul-pos}
 use native.Mathlib.Decide.{decLe}
 use native.Mathlib.Omega.{arith}
-use mathlib.Core.Bool.{Bool, true, false, not}
-use lib.Dec.{T, lit<, lit≤}
+use mathlib.Core.Bool.{Bool, true, false}
+use lib.Dec.{lit<, lit≤}
 use lib.Pow.{pow-pos}
 use lib.Ieee.{Float, binary32, unlike, round, add, sub, mul, lt, ofBits}
 use lib.Ieee.Exact.{HasValue}
-use Rattle.far.proofs.Rounding.{rounded, one, grain, speck, one-pos, grains-square, high-specks, low-specks, high-powers, not-halved}
-use Rattle.far.proofs.Values.{round-value, mul-round, add-plain, sub-round, lt-value, Sums}
+use Rattle.far.proofs.Rounding.{rounded, one, grain, speck, one-pos, grains-square, high-specks, low-specks, high-powers}
+use Rattle.far.proofs.Values.{round-value, mul-round, add-plain, sub-round, lt-value}
 use Rattle.far.proofs.Sums.{Gap, Apart, distance, difference, wide, close, one-size, made}
 
 -- ---- a component

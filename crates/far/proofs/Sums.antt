@@ -2,7 +2,7 @@
 -- apart at least. Assumes nothing.
 use mathlib.Core.Path.{_≡_, refl, sym, ap, _∙_, subst}
 use mathlib.Core.Logic.{_⊎_, inl, inr}
-use Prim.Native.Nat.{ℕ, zero, suc, _+_, _-_, _*_, _^_, _≤_, _<_}
+use Prim.Native.Nat.{ℕ, _+_, _*_, _^_, _≤_, _<_}
 use native.Mathlib.Nat.{le-trans, le-of-eq, le-of-lt, lt-of-lt-of-le, mul-assoc, mul-comm, mul-right-comm, mul-le-mul-right, mul-lt-mul-of-pos-right, le-of-mul-le-mul-right, mul-pos}
 use native.Mathlib.Omega.{arith}
 use mathlib.Core.Bool.{Bool, true, false, not}
@@ -12,7 +12,7 @@ use lib.Ieee.Exact.{HasValue}
 use lib.Ieee.Scale.{finite}
 use lib.Ieee.Positive.{num, den, den-pos}
 use Rattle.far.proofs.Rounding.{rounded, one, grain, one-pos, one-grains, high-ones, high-grains, low-grains, near-ones}
-use Rattle.far.proofs.Values.{sign, own, scale, round-value, above, under, Sums, Rounds, add-round, sub-round}
+use Rattle.far.proofs.Values.{sign, own, scale, round-value, above, under, Sums, add-round, sub-round}
 
 -- ---- signed numbers
 pub parts : (s : Bool) (a : ℕ) → above s a + under s a ≡ a
@@ -95,14 +95,14 @@ module _ (c : ℕ) (C : 0 < c) (sa sb so : Bool) (a b o : ℕ) (r r1 r2 r3 : Boo
   spread : Sums sb b (not sa) a r w → 10 * c ≤ 2048 * w → Sums sa a so o r1 w1 → Sums sb b so o r2 w2 → Near r1 w1 g1 c → Near r2 w2 g2 c → Sums r2 g2 (not r1) g1 r3 w3 → 2 * grain ≤ w3
   spread e h e1 e2 n1 n2 e3 =
       let l =
-          lines (above r w * one) (under r w * one) (above sa a * one) (under sa a * one) (above sb b * one) (under sb b * one) (above so o * one) (under so o * one)
-          (above r1 w1 * one) (under r1 w1 * one) (above r2 w2 * one) (under r2 w2 * one) (above r1 g1 * c) (under r1 g1 * c) (above r2 g2 * c) (under r2 g2 * c)
-          (above r3 w3 * c) (under r3 w3 * c) (grain * c)
-          (times (above r w) (under sb b) (above sa a) (under r w) (above sb b) (under sa a) one (turned sb b sa a r w e))
-          (times (above r1 w1) (under sa a) (under so o) (under r1 w1) (above sa a) (above so o) one e1)
-          (times (above r2 w2) (under sb b) (under so o) (under r2 w2) (above sb b) (above so o) one e2)
-          (n1 .0) (n1 .1) (n2 .0) (n2 .1)
-          (times (above r3 w3) (under r2 g2) (above r1 g1) (under r3 w3) (above r2 g2) (under r1 g1) c (turned r2 g2 r1 g1 r3 w3 e3)) in
+      lines (above r w * one) (under r w * one) (above sa a * one) (under sa a * one) (above sb b * one) (under sb b * one) (above so o * one) (under so o * one)
+      (above r1 w1 * one) (under r1 w1 * one) (above r2 w2 * one) (under r2 w2 * one) (above r1 g1 * c) (under r1 g1 * c) (above r2 g2 * c) (under r2 g2 * c)
+      (above r3 w3 * c) (under r3 w3 * c) (grain * c)
+      (times (above r w) (under sb b) (above sa a) (under r w) (above sb b) (under sa a) one (turned sb b sa a r w e))
+      (times (above r1 w1) (under sa a) (under so o) (under r1 w1) (above sa a) (above so o) one e1)
+      (times (above r2 w2) (under sb b) (under so o) (under r2 w2) (above sb b) (above so o) one e2)
+      (n1 .0) (n1 .1) (n2 .0) (n2 .1)
+      (times (above r3 w3) (under r2 g2) (above r1 g1) (under r3 w3) (above r2 g2) (under r1 g1) c (turned r2 g2 r1 g1 r3 w3 e3)) in
       let p = parts r3 w3 in
       le-of-mul-le-mul-right
       (elim (ten r w c h) [
@@ -218,8 +218,7 @@ module _ (o : Float) (so : Bool) (O : ℕ) (v : HasValue o so O one) (l : O ≤ 
       let vo : HasValue o so (O * c) (c * one) = subst (λ (d : ℕ). HasValue o so (O * c) d) (mul-comm one c) (scale o so O one c v) in
       let e = add-round x o s so (X * one) (O * c) (c * one) K vx vo in
       let m : e .1 ≤ X * one + O * c = sum-le s (X * one) so (O * c) (e .0) (e .1) (e .3) in
-      let n : e .1 < 65536 * (c * one) = below (e .1) K m in
-      (
+      let n : e .1 < 65536 * (c * one) = below (e .1) K m in (
         e .0,
         e .1,
         made (add binary32 x o) (e .0) (e .1) (c * one) 65536 K (lit< tt) (e .2) (le-of-lt n),

@@ -1,16 +1,13 @@
 -- The value of a finite float as a signed fraction, `HasValue x s a c`, and the operations of f32 by it: each is `round` of the exact result, and
 -- what `round` makes is a whole number of units of 2 ^ -149. Assumes nothing.
 use mathlib.Core.Path.{_≡_, refl, sym, ap, _∙_, subst}
-use mathlib.Core.Logic.{inl, inr}
-use Prim.Native.Nat.{ℕ, zero, suc, _+_, _-_, _*_, _/_, _%_, _^_, _≤_, _<_}
-use native.Mathlib.Nat.{le-trans, le-of-eq, le-of-lt, lt-irrefl, lt-of-lt-of-le, lt-of-le-of-lt, eq-zero-or-pos, zero-mul, mul-assoc, mul-comm, mul-left-comm, mul-right-comm, mul-mul-mul-comm, mul-sub, mul-le-mul-right, mul-lt-mul-of-pos-right, le-of-mul-le-mul-right, lt-of-mul-lt-mul-right, eq-of-mul-eq-mul-right, mul-pos}
+use Prim.Native.Nat.{ℕ, _+_, _-_, _*_, _^_, _≤_, _<_}
+use native.Mathlib.Nat.{le-of-lt, lt-irrefl, lt-of-lt-of-le, lt-of-le-of-lt, mul-assoc, mul-comm, mul-right-comm, mul-mul-mul-comm, mul-sub, mul-le-mul-right, mul-lt-mul-of-pos-right, le-of-mul-le-mul-right, lt-of-mul-lt-mul-right, eq-of-mul-eq-mul-right, mul-pos}
 use native.Mathlib.Omega.{arith}
-use mathlib.Core.Bool.{Bool, true, false, not, _&&_, _||_, Bool·beq, cond, true≢false}
-use lib.IntN.{ℤ}
-use lib.Dec.{T, leb, ltb, eqb, ltb→lt, lt→ltb, nltb→le, eqb→eq, lit<}
-use lib.Pow.{pow-pos}
-use lib.Ieee.{Float, nan, inf, fin, binary32, unlike, up, down, units, round, neg, sum, add, sub, mul, div, lt}
-use lib.Ieee.Fits.{up-pos, down-pos, round-is}
+use mathlib.Core.Bool.{Bool, true, false, not, _&&_, cond, true≢false}
+use lib.Dec.{T, ltb, eqb, ltb→lt, nltb→le, eqb→eq, lit<}
+use lib.Ieee.{Float, nan, inf, fin, binary32, unlike, up, down, round, neg, sum, add, sub, mul, div, lt}
+use lib.Ieee.Fits.{down-pos, round-is}
 use lib.Ieee.Exact.{HasValue, units-val}
 use lib.Ieee.Order.{drop, kept}
 use lib.Ieee.Scale.{round-same, finite}
