@@ -93,8 +93,9 @@ pub fn length(a: Point) -> f32
     root_value(square_length(a))
 }
 
+// Not by way of `length`: so the quotients are inlined at the caller, and the root is a call.
 pub fn normalize(a: Point) -> Point
     ensures { λ r. ⌜ r ≡ normalizeOf a ⌝ }
 {
-    over(a, length(a))
+    over(a, root_value(square_length(a)))
 }

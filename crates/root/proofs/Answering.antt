@@ -1,27 +1,27 @@
 -- `root` at every f32: which tests tell what of x, and what each answer means. Assumes nothing.
 use mathlib.Core.Path.{_≡_, refl, sym, ap, _∙_, subst}
 use mathlib.Core.Logic.{_⊎_, inl, inr}
-use Prim.Native.Nat.{ℕ, _+_, _-_, _*_, _/_, _%_, _^_, _≤_, _<_, zero-le}
+use Prim.Native.Nat.{ℕ, _+_, _*_, _^_, _≤_, _<_, zero-le}
 use native.Mathlib.Nat.{lt-of-not-le, not-suc-le-zero, mul-pos}
 use native.Mathlib.Decide.{decLe}
 use native.Mathlib.Omega.{arith}
-use mathlib.Core.Bool.{Bool, true, false, not}
+use mathlib.Core.Bool.{true, false, not}
 use lib.Dec.{T, not-T, T-not, lit<}
-use lib.Ieee.{Float, nan, inf, fin, binary32, fits, ofBits, toBits, nanBits, isNan, lt, ne}
-use lib.Ieee.Bits.{ofBits-toBits, ofBits-fits, nanBits-is}
+use lib.Ieee.{Float, nan, inf, fin, binary32, fits, ofBits, toBits, isNan, lt, ne}
+use lib.Ieee.Bits.{ofBits-toBits, ofBits-fits}
 use lib.Ieee.Compare.{differs-from-itself, nan-differs}
 use Rattle.root.specs.Root.{rootable, units, IsRoot, Close}
 use Rattle.root.specs.Answer.{Answers, answerOf}
-use Rattle.root.specs.Steps.{Near, Split, Scales, BitsRoot}
+use Rattle.root.specs.Steps.{Near, Scaled, BitsRoot}
 use Rattle.root.specs.declared.Rooted.the-variants.{Root, Refused}
-use Rattle.root.proofs.Patterns.{subnormal, normal, made, refused, value-rootable}
+use Rattle.root.proofs.Patterns.{made, refused, value-rootable, below-rootable}
 use Rattle.root.proofs.Middles.{is-root, is-close}
 use Rattle.root.proofs.Units.{same-units}
 use Rattle.root.proofs.Order.{units→lt}
 
 -- ---- what `root_bits` returns
-pub bits-root : (b m k t n g s : ℕ) → Split b m k → Scales m k t n g → Near n s → BitsRoot b (g * 8388608 + s)
-bits-root b m k t n g s P C N =
+pub bits-root : (b n g s : ℕ) → Scaled b n g → Near n s → BitsRoot b (g * 8388608 + s)
+bits-root b n g s C N =
     let x = ofBits binary32 b in
     let r = ofBits binary32 (g * 8388608 + s) in
     let v = made g s (C .most) (N .least) (N .most) in
@@ -30,19 +30,10 @@ bits-root b m k t n g s P C N =
     record {
       finite = omega arith;
       root =
-          is-root x r (m * 2 ^ k) n s g (P .value) v (C .same) N (ofBits-fits binary32 (g * 8388608 + s)) (value-rootable r (s * 2 ^ g) (2 ^ 149) v)
+          is-root x r (C .v) n s g (C .value) v (C .same) N (ofBits-fits binary32 (g * 8388608 + s)) (value-rootable r (s * 2 ^ g) (2 ^ 149) v)
           (C .operands .low);
-      close = is-close x r (m * 2 ^ k) n s g (P .value) v (C .same) N;
+      close = is-close x r (C .v) n s g (C .value) v (C .same) N;
     }
-
-rootable-no-nan : (x : Float) → T (rootable x) → T (not (isNan x))
-unfolding isNan
-rootable-no-nan nan p = absurd p
-rootable-no-nan (inf s) p = tt
-rootable-no-nan (fin s m e) p = tt
-
-pub pattern-no-nan : (b r : ℕ) → BitsRoot b r → T (not (nanBits binary32 r))
-pattern-no-nan b r h = subst (λ (t : Bool). T (not t)) (sym (nanBits-is binary32 r)) (rootable-no-nan (ofBits binary32 r) (h .root .plain))
 
 -- ---- zero and its root
 pub zero-root : IsRoot (ofBits binary32 0) (ofBits binary32 0)
@@ -67,13 +58,6 @@ high-refused x f l = not-T (rootable x) (λ t. refused (toBits binary32 x) l (su
 
 pub rootable-below : (x : Float) → T (fits binary32 x) → T (rootable x) → toBits binary32 x < 2139095040
 rootable-below x f p = lt-of-not-le (λ (g : 2139095040 ≤ toBits binary32 x). T-not (rootable x) (high-refused x f g) p)
-
-below-rootable : (b : ℕ) → b < 2139095040 → T (rootable (ofBits binary32 b))
-below-rootable b h = go (decLe 8388608 b)
-  where
-    go : Dec (8388608 ≤ b) → T (rootable (ofBits binary32 b))
-    go (yes l) = value-rootable (ofBits binary32 b) ((b % 8388608 + 8388608) * 2 ^ (b / 8388608 - 1)) (2 ^ 149) (normal b l h)
-    go (no f) = value-rootable (ofBits binary32 b) (b * 2 ^ 0) (2 ^ 149) (subnormal b (lt-of-not-le f))
 
 pub zero-is : (x : Float) → T (fits binary32 x) → toBits binary32 x ≡ 0 → x ≡ ofBits binary32 0
 zero-is x f e = sym (ofBits-toBits binary32 x f) ∙ ap (ofBits binary32) e

@@ -6,19 +6,18 @@ use native.Mathlib.Omega.{arith}
 use mathlib.Core.Bool.{Bool, true, false, not, cond}
 use lib.Dec.{T, leb, ltb, eqb, leb→le, nleb→lt, ltb→lt, nltb→le, eqb→eq, lit<}
 use lib.Pow.{shr-lt}
-use lib.Count.{leadingZeros}
 use lib.Ieee.{Float, binary32, fits, ofBits, toBits}
 use lib.Ieee.Bits.{is-true, ofBits-toBits}
 use Rattle.root.specs.Root.{rootable, IsRoot, Close}
 use Rattle.root.specs.Answer.{Answers, answerOf}
 use Rattle.root.specs.Answer.{zero as plusZero}
 use Rattle.root.specs.Compute.{digit, floorRoot, roundRoot, exponent, operand, partsRoot, bitsRoot, rootOf, rootAnswer}
-use Rattle.root.specs.Steps.{Floor, Near, Split, BitsRoot}
+use Rattle.root.specs.Steps.{Floor, Near, Operands, BitsRoot}
 use Rattle.root.specs.declared.Answer.{Answer}
 use Rattle.root.specs.declared.Rooted.the-variants.{Root, Refused}
 use Rattle.root.proofs.Squares.{rounded-up, rounded-down}
-use Rattle.root.proofs.Exponents.{scaled}
-use Rattle.root.proofs.Patterns.{split-is}
+use Rattle.root.proofs.Exponents.{counted}
+use Rattle.root.proofs.Patterns.{Split, split-is}
 use Rattle.root.proofs.Answering.{bits-root, zero-root, zero-close, zero-is, rootable-below, accepts, refuses}
 use Rattle.root.proofs.Laws.{unique, one-answer}
 
@@ -44,22 +43,21 @@ floor-is (suc k) n h = digit-is n (floorRoot k (n / 4)) (floor-is k (n / 4) (shr
     twice : (k : ℕ) → suc k + suc k ≡ k + k + 2
     twice k = omega arith
 
-round-is : (n s : ℕ) → 70368744177664 ≤ n → n ≤ 281474959933440 → Floor n s → Near n (roundRoot s n)
-round-is n s l u f = go (ltb s (n - s * s)) (ltb→lt s (n - s * s)) (nltb→le s (n - s * s))
+round-is : (n s : ℕ) → Operands n → Floor n s → Near n (roundRoot s n)
+round-is n s o f = go (ltb s (n - s * s)) (ltb→lt s (n - s * s)) (nltb→le s (n - s * s))
   where
     go : (b : Bool) → (T b → s < n - s * s) → (T (not b) → n - s * s ≤ s) → Near n (cond b (s + 1) s)
-    go true h k = rounded-up n s l u f (h tt)
-    go false h k = rounded-down n s l u f (k tt)
+    go true h k = rounded-up n s o f (h tt)
+    go false h k = rounded-down n s o f (k tt)
 
 -- ---- the pattern
 parts-is : (b m k : ℕ) → Split b m k → BitsRoot b (partsRoot m k)
 unfolding partsRoot
 parts-is b m k P =
     let n = operand m k in
-    let C = scaled m k (P .pos) (P .small) (P .low) in
+    let C = counted b m k P in
     let O = C .operands in
-    bits-root b m k (m * 2 ^ leadingZeros 32 m) n (exponent m k / 2) (roundRoot (floorRoot 24 n) n) P C
-    (round-is n (floorRoot 24 n) (O .low) (O .high) (floor-is 24 n (lt-of-le-of-lt (O .high) (lit< tt))))
+    bits-root b n (exponent m k / 2) (roundRoot (floorRoot 24 n) n) C (round-is n (floorRoot 24 n) O (floor-is 24 n (lt-of-le-of-lt (O .high) (lit< tt))))
 
 bits-is : (b : ℕ) → 0 < b → b < 2139095040 → BitsRoot b (bitsRoot b)
 unfolding bitsRoot

@@ -3,14 +3,13 @@ use mathlib.Core.Path.{_≡_, refl, sym, ap, _∙_, subst}
 use Prim.Native.Nat.{ℕ, zero, suc, _+_, _-_, _*_, _/_, _%_, _^_, _≤_, _<_}
 use native.Mathlib.Nat.{not-le-of-lt, lt-of-not-le, mod-eq-of-lt, add-comm}
 use native.Mathlib.Omega.{arith}
-use mathlib.Core.Bool.{Bool, true, false, cond, true≢false}
+use mathlib.Core.Bool.{Bool, true, false, not, cond, true≢false}
 use native.Mathlib.Decide.{decLe}
-use lib.Dec.{T, leb, eqb, leb→le, le→leb, eqb→eq, not-T}
-use lib.Ieee.{Float, nan, inf, fin, binary32, odd, ofFields, ofBits}
-use lib.Ieee.Bits.{is-true, is-false, cond-no}
+use lib.Dec.{T, leb, ltb, eqb, leb→le, le→leb, ltb→lt, eqb→eq, not-T}
+use lib.Ieee.{Float, nan, inf, fin, binary32, odd, ofFields, ofBits, nanBits}
+use lib.Ieee.Bits.{is-true, is-false, cond-no, nanBits-above}
 use lib.Ieee.Exact.{HasValue, odd-sign}
 use Rattle.root.specs.Root.{rootable}
-use Rattle.root.specs.Steps.{Split}
 
 ofBits-is : (b : ℕ) → ofBits binary32 b ≡ ofFields binary32 (leb 2147483648 b) (b % 2147483648 / 8388608) (b % 8388608)
 unfolding ofBits
@@ -52,7 +51,13 @@ normal b h k =
     ∙ ap (λ (t : ℕ). odd 24 false t (b / 8388608 - 1) 149) (add-comm 8388608 (b % 8388608)) in
     subst (λ (w : Float). HasValue w false ((b % 8388608 + 8388608) * 2 ^ (b / 8388608 - 1)) (2 ^ 149)) (sym e) (odd-sign 24 false (b % 8388608 + 8388608) (b / 8388608 - 1) 149)
 
--- ---- what `split` returns: k is one less than the exponent's field, or 0
+-- ---- both at once: b stands for m * 2 ^ k units, where k is one less than the exponent's field, or 0
+pub record Split (b m k : ℕ) : Type 0 where
+  pub value : HasValue (ofBits binary32 b) false (m * 2 ^ k) (2 ^ 149)
+  pub pos : 0 < m
+  pub small : m < 16777216
+  pub low : k ≤ 253
+
 pub split-is : (b : ℕ) → 0 < b → b < 2139095040 → Split b (b - (b / 8388608 - 1) * 8388608) (b / 8388608 - 1)
 split-is b p u = go (decLe 8388608 b)
   where
@@ -119,3 +124,18 @@ value-rootable nan a c h = absurd h
 value-rootable (inf s) a c h = absurd h
 value-rootable (fin true m e) a c h = absurd (true≢false (h .0))
 value-rootable (fin false m e) a c h = tt
+
+pub below-rootable : (b : ℕ) → b < 2139095040 → T (rootable (ofBits binary32 b))
+below-rootable b h = go (decLe 8388608 b)
+  where
+    go : Dec (8388608 ≤ b) → T (rootable (ofBits binary32 b))
+    go (yes l) = value-rootable (ofBits binary32 b) ((b % 8388608 + 8388608) * 2 ^ (b / 8388608 - 1)) (2 ^ 149) (normal b l h)
+    go (no f) = value-rootable (ofBits binary32 b) (b * 2 ^ 0) (2 ^ 149) (subnormal b (lt-of-not-le f))
+
+pub no-nan-bits : (b : ℕ) → b < 2139095040 → T (not (nanBits binary32 b))
+no-nan-bits b h =
+    subst (λ (t : Bool). T (not t)) (sym (nanBits-above binary32 b))
+    (not-T (ltb 2139095040 (b % 2147483648)) (λ t. clash (ltb→lt 2139095040 (b % 2147483648) t)))
+  where
+    clash : 2139095040 < b % 2147483648 → ⊥
+    clash k = omega arith

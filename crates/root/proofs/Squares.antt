@@ -1,26 +1,33 @@
--- Squares of whole numbers, and from the whole part of a root to the nearest whole number. Assumes nothing.
+-- Squares of whole numbers: what is nearest to a root, and from the whole part of a root to the nearest whole number. Assumes nothing.
 use Prim.Native.Nat.{ℕ, _+_, _-_, _*_, _≤_, _<_}
-use native.Mathlib.Nat.{mul-le-mul, lt-of-not-le}
+use native.Mathlib.Nat.{mul-le-mul, mul-le-mul-right, lt-of-not-le}
 use native.Mathlib.Omega.{arith}
-use Rattle.root.specs.Steps.{Floor, Near}
+use Rattle.root.specs.Steps.{Floor, Near, Operands}
 
--- ---- squares keep the order, both ways
 pub sq-le : {a b : ℕ} → a ≤ b → a * a ≤ b * b
 sq-le h = mul-le-mul h h
 
-pub sq-lt-back : (a b : ℕ) → a * a < b * b → a < b
-sq-lt-back a b h = lt-of-not-le (λ (g : b ≤ a). (let k = sq-le g in omega arith))
+-- ---- what is nearest to the root of an operand has 24 digits
+pub near : (n s : ℕ) → Operands n → s * s < n + s → n ≤ s * s + s → Near n s
+near n s o l h =
+    let a = o .low in
+    let b = o .high in
+    record {
+      low = l;
+      high = h;
+      least = lt-of-not-le (λ (g : s ≤ 8388607). (let k = sq-le g in omega arith));
+      most = lt-of-not-le (λ (g : 16777216 ≤ s). (let k = mul-le-mul-right s g in omega arith));
+    }
 
--- ---- rounding: n has 47 or 48 digits, and s is the whole part of its root
-module _ (n s : ℕ) (low : 70368744177664 ≤ n) (high : n ≤ 281474959933440) (f : Floor n s) where
-  least : 8388608 ≤ s
-  least = let h = f .high in let k : 8388608 < s + 1 = sq-lt-back 8388608 (s + 1) (omega arith) in omega arith
-
-  most : s * s < n - s → s + 1 < 16777216
-  most h = lt-of-not-le (λ (g : 16777216 ≤ s + 1). (let a : 16777215 ≤ s = omega arith in let k = sq-le a in omega arith))
-
+-- ---- rounding: s is the whole part of the root
+module _ (n s : ℕ) (o : Operands n) (f : Floor n s) where
   pub rounded-up : s < n - s * s → Near n (s + 1)
-  rounded-up h = let a = f .low in let b = f .high in record { low = omega arith; high = omega arith; least = omega (arith, least); most = most (omega arith) }
+  rounded-up h = let a = f .low in let b = f .high in near n (s + 1) o (omega arith) (omega arith)
 
   pub rounded-down : n - s * s ≤ s → Near n s
-  rounded-down h = let a = f .low in record { low = omega (arith, least); high = omega arith; least = least; most = sq-lt-back s 16777216 (omega arith) }
+  rounded-down h =
+      let a = f .low in
+      let b = f .high in
+      let c = o .low in
+      let p : 0 < s = lt-of-not-le (λ (g : s ≤ 0). (let k = sq-le g in omega arith)) in
+      near n s o (omega arith) (omega arith)

@@ -20,27 +20,19 @@ pub record Near (n s : ℕ) : Type 0 where
   pub least : 8388608 ≤ s
   pub most : s < 16777216
 
--- n has 47 or 48 digits and is so far below 2 ^ 48 that its root is not rounded up to 2 ^ 24; top has 32 digits
-pub record Operands (top n : ℕ) : Type 0 where
+-- n has 47 or 48 digits and is so far below 2 ^ 48 that its root is not rounded up to 2 ^ 24
+pub record Operands (n : ℕ) : Type 0 where
   pub low : 70368744177664 ≤ n
   pub high : n ≤ 281474959933440
-  pub top-low : 2147483648 ≤ top
-  pub top-high : top ≤ 4294967296
 
 -- ---- pattern.rt
 
--- the pattern b stands for m * 2 ^ k units
-pub record Split (b m k : ℕ) : Type 0 where
-  pub value : HasValue (ofBits binary32 b) false (m * 2 ^ k) (2 ^ 149)
-  pub pos : 0 < m
-  pub small : m < 16777216
-  pub low : k ≤ 253
-
--- m * 2 ^ k units, times 2 ^ 149, are n times the square of 2 ^ g
-pub record Scales (m k top n g : ℕ) : Type 0 where
-  pub same : m * 2 ^ k * 2 ^ 149 ≡ n * (2 ^ g * 2 ^ g)
-  pub operands : Operands top n
-  pub least : 51 ≤ g
+-- the pattern b stands for v units; these, times 2 ^ 149, are n times the square of 2 ^ g
+pub record Scaled (b n g : ℕ) : Type 0 where
+  pub v : ℕ
+  pub value : HasValue (ofBits binary32 b) false v (2 ^ 149)
+  pub same : v * 2 ^ 149 ≡ n * (2 ^ g * 2 ^ g)
+  pub operands : Operands n
   pub most : g ≤ 189
 
 -- r is the pattern of the root of the float with the pattern b

@@ -1,4 +1,4 @@
-// The root: the f32 nearest to the square root of an f32, worked over whole numbers.
+// The root: the f32 nearest to the square root of an f32, decided over whole numbers.
 mod pattern;
 mod whole;
 

@@ -1,6 +1,7 @@
 -- `root::root` meets its contract. Assumes nothing.
 use lib.Ieee.{binary32, fits}
-use Rattle.root.proofs.Answering.{pattern-no-nan, high-refused, above-no-nan, above-bits, rest-refused, nan-refused, no-nan, refuses, zero-answer, answer}
+use Rattle.root.proofs.Answering.{high-refused, above-no-nan, above-bits, rest-refused, nan-refused, no-nan, refuses, zero-answer, answer}
+use Rattle.root.proofs.Patterns.{no-nan-bits}
 use mathlib.Core.Path.{sym, subst}
 use native.Mathlib.Nat.{le-of-eq}
 use lib.Dec.{T}
@@ -20,7 +21,7 @@ root-bits-requires : tie.Need-root-bits-requires
 root-bits-requires c κs = above-bits _ (held (c .before .before)) (subst T (sym (c .before .if1 .taken)) tt) (c .if2 .left)
 
 float-from-bits-t6 : tie.Need-float-from-bits-t6
-float-from-bits-t6 c = pattern-no-nan _ _ (c .root-bits .ensures)
+float-from-bits-t6 c = no-nan-bits _ (c .root-bits .ensures .finite)
 
 returns-2 : tie.Need-returns-2
 returns-2 c = answer _ _ (held (c .before .before .before)) (above-bits _ (held (c .before .before .before)) (subst T (sym (c .before .before .if1 .taken)) tt) (c .before .if2 .left) .1) (c .root-bits .ensures)

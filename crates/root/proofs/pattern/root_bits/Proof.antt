@@ -4,11 +4,8 @@ use borrow.Author.Needs.{needs}
 use Rattle.root.proofs.pattern.root_bits.Statement.{statement}
 use Rattle.root.proofs.pattern.root_bits.Tie as tie
 
-split-requires : tie.Need-split-requires
-split-requires c κs = search needs
-
-scale-requires : tie.Need-scale-requires
-scale-requires c κs = search needs
+operand-of-requires : tie.Need-operand-of-requires
+operand-of-requires c κs = search needs
 
 nearest-requires : tie.Need-nearest-requires
 nearest-requires c κs = search needs
@@ -23,16 +20,9 @@ add-result : tie.Need-add-result
 add-result c = search needs
 
 returns : tie.Need-returns
-returns c = bits-root _ _ _ _ _ _ _ (c .before .before .before .split .ensures) (c .before .before .scale .ensures) (c .before .nearest .ensures)
+returns c = bits-root _ _ _ _ (c .before .before .operand-of .ensures) (c .before .nearest .ensures)
 
 pub root-bits-spec : {M : Type 1} → statement M
 root-bits-spec =
     tie.close
-    (tie.spec
-    split-requires
-    scale-requires
-    nearest-requires
-    mul-result
-    cast-result
-    add-result
-    returns)
+    (tie.spec operand-of-requires nearest-requires mul-result cast-result add-result returns)

@@ -1,45 +1,40 @@
 -- `root::whole::guess` meets its contract. Assumes nothing.
-use Prim.Native.Nat.{_*_, _/_, _<_}
-use native.Mathlib.Nat.{lt-of-lt-of-le}
-use lib.Dec.{lit≤}
 use native.Mathlib.Omega.{arith}
-use Rattle.root.proofs.Bounds.{first, square-fits, stepped}
+use Rattle.root.proofs.Patterns.{no-nan-bits}
+use Rattle.root.proofs.Newton.{guess-no-nan}
 use borrow.Author.Needs.{needs}
 use Rattle.root.proofs.whole.guess.Statement.{statement}
 use Rattle.root.proofs.whole.guess.Tie as tie
 
-inverse-of-requires : tie.Need-inverse-of-requires
-inverse-of-requires c κs = search needs
+float-from-bits-x : tie.Need-float-from-bits-x
+float-from-bits-x c = no-nan-bits _ (c .pre .1)
 
-mul-s : tie.Need-mul-s
-mul-s c = record { fits = lt-of-lt-of-le (first _ _ (omega (arith, c .before .pre .high)) (c .inverse-of .ensures)) (lit≤ tt) }
+add-s : tie.Need-add-s
+add-s c = search needs
 
-mul-wrapping-sub-u64 : tie.Need-mul-wrapping-sub-u64
-mul-wrapping-sub-u64 c =
-    let h : c .before .args .n / 65536 * c .inverse-of .result < 9223372036854775808 = first _ _ (omega (arith, c .before .pre .high)) (c .inverse-of .ensures) in
-    let k : c .before .args .n / 65536 * c .inverse-of .result / 274877906944 < 134217728 = omega arith in
-    record { fits = lt-of-lt-of-le (square-fits _ k) (lit≤ tt) }
+float-from-bits-s : tie.Need-float-from-bits-s
+float-from-bits-s c = no-nan-bits _ (omega (arith, c .pre .1))
 
-wrapping-sub-u64-requires : tie.Need-wrapping-sub-u64-requires
-wrapping-sub-u64-requires c κs = search needs
+float-to-bits-result : tie.Need-float-to-bits-result
+float-to-bits-result c = guess-no-nan _ _ (c .pre .0) (c .pre .1) (omega (arith, c .pre .1))
 
-mul-result : tie.Need-mul-result
-mul-result c = record { fits = lt-of-lt-of-le (first _ _ (omega arith) (c .before .inverse-of .ensures)) (lit≤ tt) }
+cast-result : tie.Need-cast-result
+cast-result c = search needs
 
 add-result : tie.Need-add-result
-add-result c = record { fits = lt-of-lt-of-le (stepped _ _ _ (omega (arith, c .before .before .pre .high)) (c .before .inverse-of .ensures)) (lit≤ tt) }
+add-result c = search needs
 
 returns : tie.Need-returns
-returns c = stepped _ _ _ (omega (arith, c .before .before .pre .high)) (c .before .inverse-of .ensures)
+returns c = search needs
 
 pub guess-spec : {M : Type 1} → statement M
 guess-spec =
     tie.close
     (tie.spec
-    inverse-of-requires
-    mul-s
-    mul-wrapping-sub-u64
-    wrapping-sub-u64-requires
-    mul-result
+    float-from-bits-x
+    add-s
+    float-from-bits-s
+    float-to-bits-result
+    cast-result
     add-result
     returns)

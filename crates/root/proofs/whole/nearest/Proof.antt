@@ -1,27 +1,63 @@
 -- `root::whole::nearest` meets its contract. Assumes nothing.
-use Rattle.root.proofs.Squares.{rounded-up, rounded-down}
+use mathlib.Core.Path.{sym, subst}
+use lib.Dec.{T}
 use borrow.Author.Needs.{needs}
 use Rattle.root.proofs.whole.nearest.Statement.{statement}
 use Rattle.root.proofs.whole.nearest.Tie as tie
 
-floor-root-requires : tie.Need-floor-root-requires
-floor-root-requires c κs = search needs
+guess-requires : tie.Need-guess-requires
+guess-requires c κs = search needs
 
-mul-if1 : tie.Need-mul-if1
-mul-if1 c = search needs
+is-near-requires : tie.Need-is-near-requires
+is-near-requires c κs = search needs
 
-sub-if1 : tie.Need-sub-if1
-sub-if1 c = search needs
+returns : tie.Need-returns
+returns c = c .before .is-near .ensures (subst T (sym (c .if1 .taken)) tt)
+
+sub-is-near : tie.Need-sub-is-near
+sub-is-near c = search needs
+
+is-near-requires-2 : tie.Need-is-near-requires-2
+is-near-requires-2 c κs = search needs
+
+sub-result : tie.Need-sub-result
+sub-result c = search needs
+
+returns-2 : tie.Need-returns-2
+returns-2 c = c .before .is-near2 .ensures (subst T (sym (c .if2 .taken)) tt)
+
+add-is-near : tie.Need-add-is-near
+add-is-near c = search needs
+
+is-near-requires-3 : tie.Need-is-near-requires-3
+is-near-requires-3 c κs = search needs
 
 add-result : tie.Need-add-result
 add-result c = search needs
 
-returns : tie.Need-returns
-returns c = rounded-up _ _ (c .before .before .pre .low) (c .before .before .pre .high) (c .before .floor-root .ensures) (c .if1 .taken)
+returns-3 : tie.Need-returns-3
+returns-3 c = c .before .is-near3 .ensures (subst T (sym (c .if3 .taken)) tt)
 
-returns-2 : tie.Need-returns-2
-returns-2 c = rounded-down _ _ (c .before .before .pre .low) (c .before .before .pre .high) (c .before .floor-root .ensures) (c .if1 .left)
+decided-requires : tie.Need-decided-requires
+decided-requires c κs = search needs
+
+returns-4 : tie.Need-returns-4
+returns-4 c = search needs
 
 pub nearest-spec : {M : Type 1} → statement M
 nearest-spec =
-    tie.close (tie.spec floor-root-requires mul-if1 sub-if1 add-result returns returns-2)
+    tie.close
+    (tie.spec
+    guess-requires
+    is-near-requires
+    returns
+    sub-is-near
+    is-near-requires-2
+    sub-result
+    returns-2
+    add-is-near
+    is-near-requires-3
+    add-result
+    returns-3
+    decided-requires
+    returns-4)
