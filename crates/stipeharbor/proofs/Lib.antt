@@ -1,0 +1,4 @@
+-- `Unique` says that each exported call has one outcome. `Putting` and `Passing` are for the functions: short lists, and answers passed on.
+pub mod Putting
+pub mod Passing
+pub mod Unique

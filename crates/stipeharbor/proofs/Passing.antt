@@ -1,0 +1,52 @@
+-- An exported call passes on what the library's call answered, turned into numbers and written over the start of the answer's list. Assumes nothing.
+use Prim.Native.Nat.{ℕ}
+use mathlib.Core.Path.{_≡_, subst, sym}
+use mathlib.Core.List.{List, [], _∷_}
+use lib.Ieee.{Float}
+use Rattle.lists.specs.Over.{over}
+use Rattle.root.specs.Answer.{Answers, answerOf}
+use Rattle.root.specs.declared.Answer.{Answer}
+use Rattle.root.specs.declared.Rooted.{Rooted}
+use Rattle.plane.specs.Normal.{normalAnswerOf, computeNormalOf}
+use Rattle.plane.specs.Vector.{point}
+use Rattle.plane.specs.declared.normal.JoinDirection.{JoinDirection}
+use Rattle.plane.specs.declared.normal.NormalAnswer.{NormalAnswer}
+use Rattle.path.specs.declared.options.Options.{Options}
+use Rattle.mesh.specs.Answer.{meshAnswerOf}
+use Rattle.mesh.specs.Mesh.{outcomeOf}
+use Rattle.mesh.specs.declared.answer.Meshed.{Meshed}
+use Rattle.mesh.specs.declared.answer.MeshAnswer.{MeshAnswer}
+use Rattle.reader.specs.Answer.{readAnswerOf}
+use Rattle.reader.specs.Outcome as reader
+use Rattle.reader.specs.Reads.{Reads}
+use Rattle.reader.specs.declared.answer.ReadAnswer.{ReadAnswer}
+use Rattle.stipeharbor.specs.Calls.{tessellateOutOf, readOutOf, ReadsOut, rootOutOf, RootsOut, normalOutOf}
+
+pub tessellated : (verbs : List ℕ) (coords : List Float) (options : Options) (v v' : List Float) (t t' answer : List ℕ) (r : Meshed)
+    → record { answer = r; vertices = v'; triangles = t' } ≡ outcomeOf verbs coords options v t
+    → (a : MeshAnswer) → a ≡ meshAnswerOf r
+    → (answer' : List ℕ) → answer' ≡ over (a .place ∷ a .vertices ∷ a .triangles ∷ []) answer
+    → record { number = a .number; answer = answer'; vertices = v'; triangles = t' } ≡ tessellateOutOf verbs coords options v t answer
+unfolding tessellateOutOf
+tessellated verbs coords options v v' t t' answer r h a e answer' w = rw (← h, ← e, w)
+
+pub reads-out : (text verbs : List ℕ) (coords : List Float) (answer : List ℕ) (o : reader.Outcome) → Reads text verbs coords o
+    → (a : ReadAnswer) → a ≡ readAnswerOf (o .answer)
+    → (answer' : List ℕ) → answer' ≡ over (a .place ∷ a .verbs ∷ a .coords ∷ []) answer
+    → ReadsOut text verbs coords answer (record { number = a .number; answer = answer'; verbs = o .verbs; coords = o .coords })
+unfolding readOutOf
+reads-out text verbs coords answer o h a e answer' w = record { outcome = o; reads = h; passed = rw (← e, w) }
+
+pub roots-out : (x : Float) (value : List Float) (r : Rooted) → Answers x (answerOf r)
+    → (a : Answer) → a ≡ answerOf r
+    → (value' : List Float) → value' ≡ over (a .value ∷ []) value
+    → RootsOut x value (record { number = a .number; floats = value' })
+unfolding rootOutOf
+roots-out x value r h a e value' w = record { answer = a; answers = subst (λ (b : Answer). Answers x b) (sym e) h; passed = rw w }
+
+pub normal-out : (x1 y1 x2 y2 : Float) (normal : List Float) (d : JoinDirection) → normalAnswerOf d ≡ computeNormalOf (point x1 y1) (point x2 y2)
+    → (a : NormalAnswer) → a ≡ normalAnswerOf d
+    → (normal' : List Float) → normal' ≡ over (a .x ∷ a .y ∷ []) normal
+    → record { number = a .number; floats = normal' } ≡ normalOutOf x1 y1 x2 y2 normal
+unfolding normalOutOf
+normal-out x1 y1 x2 y2 normal d h a e normal' w = rw (← h, ← e, w)

@@ -1,0 +1,26 @@
+-- Any two outcomes that an exported call's contract allows are the same: the number and every lent list whole. Assumes nothing.
+use Prim.Native.Nat.{ℕ}
+use mathlib.Core.Path.{_≡_, sym, ap, _∙_}
+use mathlib.Core.List.{List}
+use lib.Ieee.{Float}
+use Rattle.root.specs.declared.Answer.{Answer}
+use Rattle.root.proofs.Laws.{one-answer}
+use Rattle.path.specs.declared.options.Options.{Options}
+use Rattle.reader.specs.Outcome as reader
+use Rattle.reader.proofs.Meets.{same-outcome}
+use Rattle.stipeharbor.specs.Calls.{Tessellated, tessellateOutOf, ReadOut, readOutOf, ReadsOut, FloatsOut, rootOutOf, RootsOut, normalOutOf}
+
+pub tessellate-out-one : (verbs : List ℕ) (coords : List Float) (options : Options) (v : List Float) (t answer : List ℕ) (a b : Tessellated)
+    → a ≡ tessellateOutOf verbs coords options v t answer → b ≡ tessellateOutOf verbs coords options v t answer → a ≡ b
+tessellate-out-one verbs coords options v t answer a b h k = h ∙ sym k
+
+pub read-out-one : (text verbs : List ℕ) (coords : List Float) (answer : List ℕ) (a b : ReadOut) → ReadsOut text verbs coords answer a → ReadsOut text verbs coords answer b → a ≡ b
+read-out-one text verbs coords answer a b h k =
+    h .passed ∙ ap (λ (o : reader.Outcome). readOutOf o answer) (same-outcome text verbs coords (h .outcome) (k .outcome) (h .reads) (k .reads)) ∙ sym (k .passed)
+
+pub root-out-one : (x : Float) (value : List Float) (a b : FloatsOut) → RootsOut x value a → RootsOut x value b → a ≡ b
+root-out-one x value a b h k =
+    h .passed ∙ ap (λ (o : Answer). rootOutOf o value) (one-answer x (h .answer) (k .answer) (h .answers) (k .answers)) ∙ sym (k .passed)
+
+pub normal-out-one : (x1 y1 x2 y2 : Float) (normal : List Float) (a b : FloatsOut) → a ≡ normalOutOf x1 y1 x2 y2 normal → b ≡ normalOutOf x1 y1 x2 y2 normal → a ≡ b
+normal-out-one x1 y1 x2 y2 normal a b h k = h ∙ sym k

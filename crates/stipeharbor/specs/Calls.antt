@@ -1,0 +1,69 @@
+-- What an exported call leaves: document 01's number, and every lent list whole. What the number stands for is written over the start of a lent list, as
+-- far as it goes; the rest of that list, and a list that is too short for it, keep what they had. Assumes nothing.
+use Prim.Native.Nat.{ℕ}
+use mathlib.Core.Path.{_≡_}
+use mathlib.Core.List.{List, [], _∷_}
+use lib.Ieee.{Float}
+use Rattle.lists.specs.Over.{over}
+use Rattle.root.specs.Answer.{Answers}
+use Rattle.root.specs.declared.Answer.{Answer}
+use Rattle.plane.specs.Normal.{computeNormalOf}
+use Rattle.plane.specs.Vector.{point}
+use Rattle.path.specs.declared.options.Options.{Options}
+use Rattle.mesh.specs.Answer.{meshAnswerOf}
+use Rattle.mesh.specs.Mesh.{outcomeOf}
+use Rattle.reader.specs.Answer.{readAnswerOf}
+use Rattle.reader.specs.Outcome as reader
+use Rattle.reader.specs.Reads.{Reads}
+
+-- ---- stipeharbor_tessellate
+pub record Tessellated : Type 0 where
+  pub number : ℕ
+  pub answer : List ℕ
+  pub vertices : List Float
+  pub triangles : List ℕ
+
+-- the mesh call's outcome: "place", then "both counts"
+unfoldable pub tessellateOutOf : List ℕ → List Float → Options → List Float → List ℕ → List ℕ → Tessellated
+tessellateOutOf verbs coords options v t answer =
+    let o = outcomeOf verbs coords options v t in
+    let a = meshAnswerOf (o .answer) in
+    record { number = a .number; answer = over (a .place ∷ a .vertices ∷ a .triangles ∷ []) answer; vertices = o .vertices; triangles = o .triangles }
+
+-- ---- stipeharbor_read
+pub record ReadOut : Type 0 where
+  pub number : ℕ
+  pub answer : List ℕ
+  pub verbs : List ℕ
+  pub coords : List Float
+
+-- of an outcome of the reader: "place", then "both counts (verbs and coordinates in the reader)"
+unfoldable pub readOutOf : reader.Outcome → List ℕ → ReadOut
+readOutOf o answer =
+    let a = readAnswerOf (o .answer) in
+    record { number = a .number; answer = over (a .place ∷ a .verbs ∷ a .coords ∷ []) answer; verbs = o .verbs; coords = o .coords }
+
+-- The reader allows one outcome, so there is one `out`: `read-out-one` of proofs/Unique.antt.
+pub record ReadsOut (text verbs : List ℕ) (coords : List Float) (answer : List ℕ) (out : ReadOut) : Type 0 where
+  pub outcome : reader.Outcome
+  pub reads : Reads text verbs coords outcome
+  pub passed : out ≡ readOutOf outcome answer
+
+-- ---- stipeharbor_root and stipeharbor_compute_normal
+pub record FloatsOut : Type 0 where
+  pub number : ℕ
+  pub floats : List Float
+
+unfoldable pub rootOutOf : Answer → List Float → FloatsOut
+rootOutOf a value = record { number = a .number; floats = over (a .value ∷ []) value }
+
+-- There is one answer to x, so there is one `out`: `root-out-one` of proofs/Unique.antt.
+pub record RootsOut (x : Float) (value : List Float) (out : FloatsOut) : Type 0 where
+  pub answer : Answer
+  pub answers : Answers x answer
+  pub passed : out ≡ rootOutOf answer value
+
+unfoldable pub normalOutOf : Float → Float → Float → Float → List Float → FloatsOut
+normalOutOf x1 y1 x2 y2 normal =
+    let a = computeNormalOf (point x1 y1) (point x2 y2) in
+    record { number = a .number; floats = over (a .x ∷ a .y ∷ []) normal }

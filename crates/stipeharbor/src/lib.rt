@@ -1,0 +1,88 @@
+// The library as C and Rust link it: four calls over numbers and slices, each answering document 01's number. What a number stands for is written over
+// the start of a list that the caller lends, as far as that list goes, so no call has a `requires`.
+mod put;
+
+use crate::put::put_float;
+use crate::put::put_numbers;
+use crate::put::put_vector;
+use mesh::answer::mesh_answer_of;
+use mesh::tessellate;
+use path::options::Options;
+use plane::normal::compute_normal;
+use plane::normal::normal_answer_of;
+use plane::vector::Point;
+use reader::answer::read_answer_of;
+use reader::read;
+use root::answer_of;
+use root::root;
+ghost use mathlib.Core.Path.{_≡_};
+ghost use Rattle.stipeharbor.specs.Calls.{tessellateOutOf, normalOutOf, ReadsOut, RootsOut};
+
+// The mesh call. `answer` gets the place, the number of vertices and the number of triangles.
+#[no_mangle]
+pub extern "C" fn stipeharbor_tessellate(
+    verbs: &[u8],
+    coords: &[f32],
+    width: f32,
+    miter_limit: f32,
+    line_join: u32,
+    line_cap: u32,
+    vertices: &mut [f32],
+    triangles: &mut [u16],
+    answer: &mut [usize],
+) -> u32
+    ensures { λ r. ⌜ record { number = r; answer = now (answer .exit); vertices = now (vertices .exit); triangles = now (triangles .exit) } ≡ tessellateOutOf (now (verbs .entry)) (now (coords .entry)) (record { width = width; «miter_limit» = «miter_limit»; «line_join» = «line_join»; cap = «line_cap» }) (now (vertices .entry)) (now (triangles .entry)) (now (answer .entry)) ⌝ }
+{
+    let options = Options {
+        width: width,
+        miter_limit: miter_limit,
+        line_join: line_join,
+        cap: line_cap,
+    };
+    let a = mesh_answer_of(tessellate(verbs, coords, options, vertices, triangles));
+    put_numbers(answer, a.place, a.vertices, a.triangles);
+    a.number
+}
+
+// The reader. `answer` gets the place, the number of verbs and the number of coordinates.
+#[no_mangle]
+pub extern "C" fn stipeharbor_read(
+    text: &[u8],
+    verbs: &mut [u8],
+    coords: &mut [f32],
+    answer: &mut [usize],
+) -> u32
+    ensures { λ r. ⌜ ReadsOut (now (text .entry)) (now (verbs .entry)) (now (coords .entry)) (now (answer .entry)) (record { number = r; answer = now (answer .exit); verbs = now (verbs .exit); coords = now (coords .exit) }) ⌝ }
+{
+    let a = read_answer_of(read(text, verbs, coords));
+    put_numbers(answer, a.place, a.verbs, a.coords);
+    a.number
+}
+
+// The root. `value` gets it, or +0 with refusal 13.
+#[no_mangle]
+pub extern "C" fn stipeharbor_root(x: f32, value: &mut [f32]) -> u32
+    ensures { λ r. ⌜ RootsOut x (now (value .entry)) (record { number = r; floats = now (value .exit) }) ⌝ }
+{
+    let rooted = answer_of(root(x));
+    put_float(value, rooted.value);
+    rooted.number
+}
+
+// lyon's `compute_normal` of (x1, y1) and (x2, y2). `normal` gets its x and y, or zeros with refusal 4.
+#[no_mangle]
+pub extern "C" fn stipeharbor_compute_normal(
+    x1: f32,
+    y1: f32,
+    x2: f32,
+    y2: f32,
+    normal: &mut [f32],
+) -> u32
+    ensures { λ r. ⌜ record { number = r; floats = now (normal .exit) } ≡ normalOutOf x1 y1 x2 y2 (now (normal .entry)) ⌝ }
+{
+    let v1 = Point { x: x1, y: y1 };
+    let v2 = Point { x: x2, y: y2 };
+    let a = normal_answer_of(compute_normal(v1, v2));
+    put_vector(normal, a.x, a.y);
+    a.number
+}
