@@ -1,0 +1,49 @@
+//! The program ./stripe in Rust over the library: path text on standard input; its mesh, or one
+//! refusal, on standard output.
+
+use std::fmt::Write as _;
+use std::io::{self, Read, Write};
+use stipeharbor::{read, tessellate, Cap, Join, Options, Refusal, TEXT_LIMIT};
+
+const OPTIONS: Options = Options {
+    width: 2.0,
+    miter_limit: 4.0,
+    join: Join::Miter,
+    cap: Cap::Butt,
+};
+
+fn drawn(text: &[u8]) -> Result<String, Refusal> {
+    let (mut verbs, mut coords) = ([0; 1024], [0.0; 2048]);
+    let (mut vertices, mut triangles) = ([0.0; 5 * 1024], [0; 3 * 1536]);
+    let path = read(text, &mut verbs, &mut coords)?;
+    let (verbs, coords) = (&verbs[..path.verbs], &coords[..path.coordinates]);
+    let mesh = tessellate(verbs, coords, OPTIONS, &mut vertices, &mut triangles)?;
+    Ok(printed(
+        &vertices[..5 * mesh.vertices],
+        &triangles[..3 * mesh.triangles],
+    )
+    .expect("a string takes any text"))
+}
+
+fn printed(vertices: &[f32], triangles: &[u16]) -> Result<String, std::fmt::Error> {
+    let mut out = String::new();
+    writeln!(out, "v {}", vertices.len() / 5)?;
+    for v in vertices.chunks_exact(5) {
+        writeln!(out, "{:08X} {:08X}", v[0].to_bits(), v[1].to_bits())?;
+    }
+    writeln!(out, "t {}", triangles.len() / 3)?;
+    for t in triangles.chunks_exact(3) {
+        writeln!(out, "{} {} {}", t[0], t[1], t[2])?;
+    }
+    Ok(out)
+}
+
+fn main() -> io::Result<()> {
+    // One byte more than a text may have: what comes after it changes nothing.
+    let mut text = Vec::new();
+    io::stdin()
+        .take(TEXT_LIMIT as u64 + 1)
+        .read_to_end(&mut text)?;
+    let out = drawn(&text).unwrap_or_else(|refusal| format!("{}\n", refusal));
+    io::stdout().write_all(out.as_bytes())
+}

@@ -1,0 +1,146 @@
+//! The proved library's four calls in safe Rust. A path goes in; the mesh of its stripe or one
+//! [`Refusal`] comes out.
+//!
+//! ```no_run
+//! use stipeharbor::{tessellate, Cap, Join, Options, BEGIN, END_OPEN, LINE};
+//!
+//! let options = Options { width: 2.0, miter_limit: 4.0, join: Join::Miter, cap: Cap::Butt };
+//! let (verbs, coordinates) = ([BEGIN, LINE, END_OPEN], [0.0, 1.0, 2.0, 1.0]);
+//! let (mut vertices, mut triangles) = ([0.0; 5 * 4], [0; 3 * 2]);
+//! let mesh = tessellate(&verbs, &coordinates, options, &mut vertices, &mut triangles)?;
+//! assert_eq!((mesh.vertices, mesh.triangles), (4, 2));
+//! # Ok::<(), stipeharbor::Refusal>(())
+//! ```
+//!
+//! A refusal leaves every lent list as it was, and after a success the elements behind those
+//! counted keep what they had.
+//! The calls have no precondition, so this crate checks nothing: it hands slices over, which Rust
+//! keeps valid, aligned and apart.
+
+#![deny(unsafe_op_in_unsafe_fn)]
+#![warn(missing_docs)]
+
+pub mod raw;
+mod refusal;
+
+pub use refusal::Refusal;
+
+/// A verb that begins a run; it has two coordinates.
+pub const BEGIN: u8 = 0;
+/// A verb that draws a line; it has two coordinates.
+pub const LINE: u8 = 1;
+/// A verb that ends a run open.
+pub const END_OPEN: u8 = 2;
+/// A verb that ends a run closed.
+pub const END_CLOSED: u8 = 3;
+/// The most verbs that a path may have.
+pub const VERB_LIMIT: usize = 4096;
+/// The most bytes that a path text may have.
+pub const TEXT_LIMIT: usize = 16_384;
+
+/// The shape of a corner.
+#[derive(Clone, Copy, Debug, PartialEq, Eq)]
+pub enum Join {
+    /// A tip, or beyond the limit a bevel.
+    Miter = 0,
+    /// A tip, or beyond the limit one that is cut off there.
+    MiterClip = 1,
+    /// The corner cut straight across.
+    Bevel = 2,
+}
+
+/// The shape of both ends of an open run.
+#[derive(Clone, Copy, Debug, PartialEq, Eq)]
+pub enum Cap {
+    /// Ending at the point.
+    Butt = 0,
+    /// Half a width beyond it.
+    Square = 1,
+}
+
+/// How a path is stroked.
+#[derive(Clone, Copy, Debug, PartialEq)]
+pub struct Options {
+    /// The stripe's width, in the units of the coordinates: 1/256 to 16,384.
+    pub width: f32,
+    /// How far the tip of a join may lie from its point, in half widths: 1 to 1,024.
+    pub miter_limit: f32,
+    /// The shape of a corner.
+    pub join: Join,
+    /// The shape of both ends of an open run.
+    pub cap: Cap,
+}
+
+/// What [`tessellate`] wrote.
+#[derive(Clone, Copy, Debug, PartialEq, Eq)]
+pub struct Mesh {
+    /// Vertices, five floats each at the start of the vertex list.
+    pub vertices: usize,
+    /// Triangles, three vertex numbers each at the start of the triangle list.
+    pub triangles: usize,
+}
+
+/// What [`read`] wrote.
+#[derive(Clone, Copy, Debug, PartialEq, Eq)]
+pub struct Path {
+    /// Verbs at the start of the verb list.
+    pub verbs: usize,
+    /// Coordinates at the start of the coordinate list.
+    pub coordinates: usize,
+}
+
+/// Strokes a path. A vertex is five floats (x, y, the normal's x and y, the advancement), a
+/// triangle three vertex numbers.
+/// With two empty lists the refusal [`Refusal::VertexRoom`] says how many of each there are to be.
+pub fn tessellate(
+    verbs: &[u8],
+    coordinates: &[f32],
+    options: Options,
+    vertices: &mut [f32],
+    triangles: &mut [u16],
+) -> Result<Mesh, Refusal> {
+    let mut answer = [0; 3];
+    let number = raw::tessellate(
+        verbs,
+        coordinates,
+        options.width,
+        options.miter_limit,
+        options.join as u32,
+        options.cap as u32,
+        vertices,
+        triangles,
+        &mut answer,
+    );
+    let [place, n, m] = answer;
+    Refusal::or(number, place, n, m).map(|()| Mesh {
+        vertices: n,
+        triangles: m,
+    })
+}
+
+/// Reads path text (M, L, Z, whole numbers) into the two lists that [`tessellate`] takes.
+pub fn read(text: &[u8], verbs: &mut [u8], coordinates: &mut [f32]) -> Result<Path, Refusal> {
+    let mut answer = [0; 3];
+    let number = raw::read(text, verbs, coordinates, &mut answer);
+    let [place, n, m] = answer;
+    Refusal::or(number, place, n, m).map(|()| Path {
+        verbs: n,
+        coordinates: m,
+    })
+}
+
+/// The f32 nearest to the exact square root, of +0 and of every finite positive f32.
+pub fn root(x: f32) -> Result<f32, Refusal> {
+    let mut value = [0.0];
+    let number = raw::root(x, &mut value);
+    Refusal::or(number, 0, 0, 0).map(|()| value[0])
+}
+
+/// The normal of a join between edges of the unit directions `v1` and `v2`, so long that their
+/// sides one unit off meet at its end.
+/// A component that is not finite or beyond 2 in size is refused.
+pub fn compute_normal(v1: [f32; 2], v2: [f32; 2]) -> Result<[f32; 2], Refusal> {
+    let mut normal = [0.0; 2];
+    let number = raw::compute_normal(v1[0], v1[1], v2[0], v2[1], &mut normal);
+    Refusal::or(number, 0, 0, 0).map(|()| normal)
+}

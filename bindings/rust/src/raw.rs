@@ -1,0 +1,104 @@
+//! The four calls as C has them, on slices: each returns the number, and writes what it stands for
+//! over the start of its last list, as far as that goes. Joins and caps are numbers here, any at
+//! all. No other file has `unsafe`.
+
+extern "C" {
+    fn stipeharbor_tessellate(
+        verbs: *const u8,
+        verbs_len: usize,
+        coords: *const f32,
+        coords_len: usize,
+        width: f32,
+        miter_limit: f32,
+        line_join: u32,
+        line_cap: u32,
+        vertices: *mut f32,
+        vertices_len: usize,
+        triangles: *mut u16,
+        triangles_len: usize,
+        answer: *mut usize,
+        answer_len: usize,
+    ) -> u32;
+    fn stipeharbor_read(
+        text: *const u8,
+        text_len: usize,
+        verbs: *mut u8,
+        verbs_len: usize,
+        coords: *mut f32,
+        coords_len: usize,
+        answer: *mut usize,
+        answer_len: usize,
+    ) -> u32;
+    fn stipeharbor_root(x: f32, value: *mut f32, value_len: usize) -> u32;
+    fn stipeharbor_compute_normal(
+        x1: f32,
+        y1: f32,
+        x2: f32,
+        y2: f32,
+        normal: *mut f32,
+        normal_len: usize,
+    ) -> u32;
+}
+
+/// `answer` gets the place, the number of vertices and the number of triangles.
+#[allow(clippy::too_many_arguments)] // They are the foreign call's.
+pub fn tessellate(
+    verbs: &[u8],
+    coords: &[f32],
+    width: f32,
+    miter_limit: f32,
+    line_join: u32,
+    line_cap: u32,
+    vertices: &mut [f32],
+    triangles: &mut [u16],
+    answer: &mut [usize],
+) -> u32 {
+    // SAFETY: each pair is a live slice's; those that are written are exclusive borrows.
+    unsafe {
+        stipeharbor_tessellate(
+            verbs.as_ptr(),
+            verbs.len(),
+            coords.as_ptr(),
+            coords.len(),
+            width,
+            miter_limit,
+            line_join,
+            line_cap,
+            vertices.as_mut_ptr(),
+            vertices.len(),
+            triangles.as_mut_ptr(),
+            triangles.len(),
+            answer.as_mut_ptr(),
+            answer.len(),
+        )
+    }
+}
+
+/// `answer` gets the place, the number of verbs and the number of coordinates.
+pub fn read(text: &[u8], verbs: &mut [u8], coords: &mut [f32], answer: &mut [usize]) -> u32 {
+    // SAFETY: each pair is a live slice's; those that are written are exclusive borrows.
+    unsafe {
+        stipeharbor_read(
+            text.as_ptr(),
+            text.len(),
+            verbs.as_mut_ptr(),
+            verbs.len(),
+            coords.as_mut_ptr(),
+            coords.len(),
+            answer.as_mut_ptr(),
+            answer.len(),
+        )
+    }
+}
+
+/// `value` gets the root, or +0 with a refusal.
+pub fn root(x: f32, value: &mut [f32]) -> u32 {
+    // SAFETY: the pair is a live slice's, borrowed exclusively.
+    unsafe { stipeharbor_root(x, value.as_mut_ptr(), value.len()) }
+}
+
+/// `normal` gets x and y, or zeros with a refusal.
+pub fn compute_normal(x1: f32, y1: f32, x2: f32, y2: f32, normal: &mut [f32]) -> u32 {
+    // SAFETY: the pair is a live slice's, borrowed exclusively.
+    unsafe { stipeharbor_compute_normal(x1, y1, x2, y2, normal.as_mut_ptr(), normal.len()) }
+}

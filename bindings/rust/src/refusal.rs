@@ -1,0 +1,134 @@
+//! The refusals, each with what it carries.
+
+use std::error::Error;
+use std::fmt;
+
+/// Why a call was refused. Where more than one would fit, it is the one of the least number.
+#[derive(Clone, Copy, Debug, PartialEq, Eq)]
+pub enum Refusal {
+    /// 1: an option is outside its range, or NaN.
+    OutOfRange,
+    /// 2: more than [`VERB_LIMIT`](crate::VERB_LIMIT) verbs.
+    TooManyVerbs,
+    /// 3: the verb at the place is unknown or misplaced; or, at the number of verbs, a run has no
+    /// end or the coordinates are
+    /// not two to each begin or line.
+    Verb {
+        /// Which verb.
+        place: usize,
+    },
+    /// 4: the coordinate at the place is not finite or beyond 32,768 in size; in `compute_normal`,
+    /// with place 0, a component is
+    /// not finite or beyond 2 in size.
+    Coordinate {
+        /// Which coordinate.
+        place: usize,
+    },
+    /// 5: the edge at the place, of those that are drawn, is too short to have two sides.
+    ShortEdge {
+        /// Which edge.
+        place: usize,
+    },
+    /// 6: too few vertex places.
+    VertexRoom {
+        /// The vertices that there are to be.
+        vertices: usize,
+        /// The triangles that there are to be.
+        triangles: usize,
+    },
+    /// 7: too few triangle places.
+    TriangleRoom {
+        /// The vertices that there are to be.
+        vertices: usize,
+        /// The triangles that there are to be.
+        triangles: usize,
+    },
+    /// 8: the text has more than [`TEXT_LIMIT`](crate::TEXT_LIMIT) bytes.
+    TooLong,
+    /// 9: from the byte at the place on, or at its end, the text is no path text.
+    OutOfForm {
+        /// Which byte.
+        place: usize,
+    },
+    /// 10: the number that begins at the place is beyond 32,768 in size.
+    TooLarge {
+        /// Which byte.
+        place: usize,
+    },
+    /// 11: a lent list is too short, or the path has more than [`VERB_LIMIT`](crate::VERB_LIMIT)
+    /// verbs.
+    NoRoom,
+    /// 13: the root of a negative, -0, infinite or NaN.
+    NoRoot,
+}
+
+impl Refusal {
+    /// By number, place and both counts, as a call answers them.
+    pub(crate) fn or(
+        number: u32,
+        place: usize,
+        vertices: usize,
+        triangles: usize,
+    ) -> Result<(), Refusal> {
+        Err(match number {
+            0 => return Ok(()),
+            1 => Refusal::OutOfRange,
+            2 => Refusal::TooManyVerbs,
+            3 => Refusal::Verb { place },
+            4 => Refusal::Coordinate { place },
+            5 => Refusal::ShortEdge { place },
+            6 => Refusal::VertexRoom {
+                vertices,
+                triangles,
+            },
+            7 => Refusal::TriangleRoom {
+                vertices,
+                triangles,
+            },
+            8 => Refusal::TooLong,
+            9 => Refusal::OutOfForm { place },
+            10 => Refusal::TooLarge { place },
+            11 => Refusal::NoRoom,
+            13 => Refusal::NoRoot,
+            _ => unreachable!("the library is proved to answer no other number"),
+        })
+    }
+
+    /// The number in the specification's table.
+    pub fn number(self) -> u32 {
+        match self {
+            Refusal::OutOfRange => 1,
+            Refusal::TooManyVerbs => 2,
+            Refusal::Verb { .. } => 3,
+            Refusal::Coordinate { .. } => 4,
+            Refusal::ShortEdge { .. } => 5,
+            Refusal::VertexRoom { .. } => 6,
+            Refusal::TriangleRoom { .. } => 7,
+            Refusal::TooLong => 8,
+            Refusal::OutOfForm { .. } => 9,
+            Refusal::TooLarge { .. } => 10,
+            Refusal::NoRoom => 11,
+            Refusal::NoRoot => 13,
+        }
+    }
+
+    /// The place that it names, 0 where it names none.
+    pub fn place(self) -> usize {
+        match self {
+            Refusal::Verb { place }
+            | Refusal::Coordinate { place }
+            | Refusal::ShortEdge { place }
+            | Refusal::OutOfForm { place }
+            | Refusal::TooLarge { place } => place,
+            _ => 0,
+        }
+    }
+}
+
+impl fmt::Display for Refusal {
+    fn fmt(&self, f: &mut fmt::Formatter<'_>) -> fmt::Result {
+        write!(f, "refused {} {}", self.number(), self.place())
+    }
+}
+
+impl Error for Refusal {}

@@ -1,0 +1,106 @@
+/* Stipeharbor: a path in, the mesh of its stripe out, or one refusal. Every call is proved (docs/PROVED.md); target/staticlib/libstipeharbor.a has them.
+ *
+ * A list is a pointer and a length, and every length counts elements, not bytes. What a caller keeps to, since no proof reaches C:
+ * - the pointer is aligned for its type and valid for as many elements; of a list of length 0 it is not used, and may be NULL;
+ * - a list that a call may write shares no memory with another list of that call, and nobody else touches a lent list while the call runs.
+ * Nothing else is asked: any bytes, any floats and any lengths have an answer. No call allocates, keeps a pointer or uses a global.
+ *
+ * Each call returns 0 or the number of one refusal. A refusal leaves every list as it was, but for the last one, the answer's own. That one is written as
+ * far as it goes: one that is too short gets the first numbers, and a longer one keeps what it has behind them.
+ */
+#ifndef STIPEHARBOR_H
+#define STIPEHARBOR_H
+
+#include <stddef.h>
+#include <stdint.h>
+
+#ifdef __cplusplus
+extern "C" {
+#endif
+
+/* What a call returns. Where more than one refusal would fit, the least number is given. */
+enum stipeharbor_number {
+    STIPEHARBOR_ACCEPTED = 0,
+    STIPEHARBOR_OUT_OF_RANGE = 1,   /* an option is outside its range, or NaN */
+    STIPEHARBOR_TOO_MANY_VERBS = 2, /* more than STIPEHARBOR_VERB_LIMIT verbs */
+    STIPEHARBOR_VERB = 3,           /* the verb at the place is unknown or misplaced; or, at the number of verbs, a run has no end or the coordinates are not two to each begin or line */
+    STIPEHARBOR_COORDINATE = 4,     /* the coordinate at the place is not finite or too large */
+    STIPEHARBOR_SHORT_EDGE = 5,     /* the edge at the place, of those that are drawn, is too short to have two sides */
+    STIPEHARBOR_VERTEX_ROOM = 6,    /* too few vertex places; the counts say how many are needed */
+    STIPEHARBOR_TRIANGLE_ROOM = 7,  /* too few triangle places; the counts say how many are needed */
+    STIPEHARBOR_TOO_LONG = 8,       /* the text has more than STIPEHARBOR_TEXT_LIMIT bytes */
+    STIPEHARBOR_OUT_OF_FORM = 9,    /* from the byte at the place on, or at its end, the text is no path text */
+    STIPEHARBOR_TOO_LARGE = 10,     /* the number that begins at the place is beyond STIPEHARBOR_COORDINATE_LIMIT in size */
+    STIPEHARBOR_NO_ROOM = 11,       /* the verb list or the coordinate list is too short, or the path has more than STIPEHARBOR_VERB_LIMIT verbs */
+    STIPEHARBOR_NO_ROOT = 13        /* the root of a negative, -0, infinite or NaN */
+};
+
+/* Verbs. A begin and a line have two coordinates each. */
+#define STIPEHARBOR_BEGIN 0
+#define STIPEHARBOR_LINE 1
+#define STIPEHARBOR_END_OPEN 2
+#define STIPEHARBOR_END_CLOSED 3
+
+/* Line joins: a tip, or beyond the limit a bevel; a tip, or beyond the limit one that is cut off there; the corner cut straight across. */
+#define STIPEHARBOR_MITER 0
+#define STIPEHARBOR_MITER_CLIP 1
+#define STIPEHARBOR_BEVEL 2
+
+/* Line caps: the end at the point, or half a width beyond it. */
+#define STIPEHARBOR_BUTT 0
+#define STIPEHARBOR_SQUARE 1
+
+/* Limits, all of them included. */
+#define STIPEHARBOR_VERB_LIMIT 4096
+#define STIPEHARBOR_TEXT_LIMIT 16384
+#define STIPEHARBOR_COORDINATE_LIMIT 32768.0f
+#define STIPEHARBOR_WIDTH_LEAST 0.00390625f
+#define STIPEHARBOR_WIDTH_MOST 16384.0f
+#define STIPEHARBOR_MITER_LIMIT_LEAST 1.0f
+#define STIPEHARBOR_MITER_LIMIT_MOST 1024.0f
+
+/* Strokes a path: a mesh at the start of `vertices` (five floats each: x, y, the normal's x and y, the advancement) and of `triangles` (three vertex numbers
+ * each). Elements behind it keep what they have. Room is the list's length over 5 or over 3, rounded down.
+ * Refusals 1 to 7; one leaves `vertices` and `triangles` as they were. With both lengths 0 the counts can be asked for: 6 carries them, or 0 where they are 0.
+ * `answer` gets the place (of 3, 4 and 5, else 0), the number of vertices and the number of triangles (of 0, 6 and 7, else 0). */
+uint32_t stipeharbor_tessellate(
+    const uint8_t *verbs, size_t verbs_len,
+    const float *coords, size_t coords_len,
+    float width,
+    float miter_limit,
+    uint32_t line_join,
+    uint32_t line_cap,
+    float *vertices, size_t vertices_len,
+    uint16_t *triangles, size_t triangles_len,
+    size_t *answer, size_t answer_len);
+
+/* Reads path text (M, L, Z, whole numbers) into the start of `verbs` and of `coords`, as stipeharbor_tessellate takes them. Elements behind keep what they have.
+ * Refusals 8 to 11; one leaves `verbs` and `coords` as they were.
+ * `answer` gets the place (of 9 and 10, else 0), the number of verbs and the number of coordinates (of 0, else 0). */
+uint32_t stipeharbor_read(
+    const uint8_t *text, size_t text_len,
+    uint8_t *verbs, size_t verbs_len,
+    float *coords, size_t coords_len,
+    size_t *answer, size_t answer_len);
+
+/* The float nearest to the exact square root of +0 or of a finite positive float. Refusal 13 for any other.
+ * `value` gets the root, or +0 with a refusal. */
+uint32_t stipeharbor_root(
+    float x,
+    float *value, size_t value_len);
+
+/* The normal of a join between edges of the unit directions (x1, y1) and (x2, y2), so long that their sides one unit off meet at its end.
+ * Refusal 4 where a component is not finite or beyond 2 in size.
+ * `normal` gets x and y, or zeros with a refusal. */
+uint32_t stipeharbor_compute_normal(
+    float x1,
+    float y1,
+    float x2,
+    float y2,
+    float *normal, size_t normal_len);
+
+#ifdef __cplusplus
+}
+#endif
+
+#endif
