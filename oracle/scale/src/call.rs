@@ -1,0 +1,121 @@
+//! One case given to both sides.
+
+use crate::list::List;
+use oracle::case::{Case, MeshCase, ReadCase};
+use oracle::gen::Rng;
+use oracle::mesh::mesh;
+use oracle::normal::public_normal;
+use oracle::path::Path;
+use oracle::plane::vector;
+use oracle::reader::read;
+use oracle::root::public_root;
+use oracle::routines::Routines;
+use oracle::Judge;
+use stipeharbor::raw;
+
+/// The lists of all calls, kept between cases.
+#[derive(Default)]
+pub struct Lists {
+    vertices: List<f32>,
+    triangles: List<u16>,
+    verbs: List<u8>,
+    coordinates: List<f32>,
+    answer: List<usize>,
+    values: List<f32>,
+}
+
+/// The number that both sides answered, or what differs.
+type Held = Result<u32, String>;
+
+impl Lists {
+    /// The answer's own list is mostly just long enough.
+    pub fn hold(&mut self, rng: &mut Rng, case: &Case) -> Held {
+        let length = rng.pick(&[3, 3, 3, 3, 3, 0, 1, 2, 4, 5]);
+        self.answer.lend(length);
+        match case {
+            Case::Mesh(case) => self.hold_mesh(case),
+            Case::Read(case) => self.hold_read(case),
+            Case::Root(x) => self.hold_root(*x, length),
+            Case::Normal(floats) => self.hold_normal(*floats, length),
+            _ => Err("no call of the library".to_string()),
+        }
+    }
+
+    fn hold_mesh(&mut self, case: &MeshCase) -> Held {
+        self.vertices.lend(case.vertex_len);
+        self.triangles.lend(case.triangle_len);
+        let options = case.options;
+        let number = raw::tessellate(
+            &case.verbs,
+            &case.coordinates,
+            options.width,
+            options.limit,
+            options.join.into(),
+            options.cap.into(),
+            self.vertices.ours(),
+            self.triangles.ours(),
+            self.answer.ours(),
+        );
+        let path = Path {
+            verbs: &case.verbs,
+            coordinates: &case.coordinates,
+        };
+        let (vertices, triangles) = (self.vertices.theirs(), self.triangles.theirs());
+        let told = mesh::<Judge>(path, options, vertices, triangles);
+        let (n, m) = told.counts;
+        self.answer.expect(&[told.place, n, m]);
+        held(number, told.number)?;
+        alike(self.answer.difference("answer"))?;
+        alike(self.vertices.difference("vertices"))?;
+        alike(self.triangles.difference("triangles"))?;
+        Ok(number)
+    }
+
+    fn hold_read(&mut self, case: &ReadCase) -> Held {
+        self.verbs.lend(case.verb_len);
+        self.coordinates.lend(case.coordinate_len);
+        let (verbs, coordinates) = (self.verbs.ours(), self.coordinates.ours());
+        let number = raw::read(&case.text, verbs, coordinates, self.answer.ours());
+        let (verbs, coordinates) = (self.verbs.theirs(), self.coordinates.theirs());
+        let told = read(&case.text, verbs, coordinates);
+        let (n, m) = told.counts;
+        self.answer.expect(&[told.place, n, m]);
+        held(number, told.number)?;
+        alike(self.answer.difference("answer"))?;
+        alike(self.verbs.difference("verbs"))?;
+        alike(self.coordinates.difference("coordinates"))?;
+        Ok(number)
+    }
+
+    fn hold_root(&mut self, x: f32, length: usize) -> Held {
+        self.values.lend(length);
+        let number = raw::root(x, self.values.ours());
+        let (told, value) = public_root(x);
+        self.values.expect(&[value]);
+        held(number, told)?;
+        alike(self.values.difference("value"))?;
+        Ok(number)
+    }
+
+    fn hold_normal(&mut self, [x1, y1, x2, y2]: [f32; 4], length: usize) -> Held {
+        self.values.lend(length);
+        let number = raw::compute_normal(x1, y1, x2, y2, self.values.ours());
+        let (v1, v2) = (vector(x1, y1), vector(x2, y2));
+        let (told, normal) = public_normal(Judge::compute_normal, v1, v2);
+        self.values.expect(&[normal.x, normal.y]);
+        held(number, told)?;
+        alike(self.values.difference("normal"))?;
+        Ok(number)
+    }
+}
+
+fn held(ours: u32, theirs: u32) -> Result<(), String> {
+    if ours == theirs {
+        return Ok(());
+    }
+    Err(format!("number: library {}, oracle {}", ours, theirs))
+}
+
+fn alike(difference: Option<String>) -> Result<(), String> {
+    difference.map_or(Ok(()), Err)
+}
