@@ -1,0 +1,50 @@
+/* The program ./stripe in C over the library: path text on standard input; its mesh, or one refusal, on standard output. */
+#include <stdio.h>
+#include <string.h>
+
+#include "stipeharbor.h"
+
+/* One byte more than a text may have: what comes after it changes nothing. */
+#define TEXT_ROOM (STIPEHARBOR_TEXT_LIMIT + 1)
+#define VERB_ROOM 1024
+#define COORD_ROOM 2048
+#define VERTEX_ROOM (5 * 1024)
+#define TRIANGLE_ROOM (3 * 1536)
+
+static uint8_t text[TEXT_ROOM];
+static uint8_t verbs[VERB_ROOM];
+static float coords[COORD_ROOM];
+static float vertices[VERTEX_ROOM];
+static uint16_t triangles[TRIANGLE_ROOM];
+
+static uint32_t bits(float x)
+{
+    uint32_t b;
+    memcpy(&b, &x, sizeof b);
+    return b;
+}
+
+static void print_mesh(size_t vertex_count, size_t triangle_count)
+{
+    printf("v %zu\n", vertex_count);
+    for (size_t i = 0; i < vertex_count; i++)
+        printf("%08X %08X\n", (unsigned)bits(vertices[5 * i]), (unsigned)bits(vertices[5 * i + 1]));
+    printf("t %zu\n", triangle_count);
+    for (size_t i = 0; i < triangle_count; i++)
+        printf("%u %u %u\n", triangles[3 * i], triangles[3 * i + 1], triangles[3 * i + 2]);
+}
+
+int main(void)
+{
+    size_t answer[3];
+    size_t length = fread(text, 1, TEXT_ROOM, stdin);
+    uint32_t number = stipeharbor_read(text, length, verbs, VERB_ROOM, coords, COORD_ROOM, answer, 3);
+    if (number == STIPEHARBOR_ACCEPTED)
+        number = stipeharbor_tessellate(verbs, answer[1], coords, answer[2], 2.0f, 4.0f, STIPEHARBOR_MITER, STIPEHARBOR_BUTT,
+                                        vertices, VERTEX_ROOM, triangles, TRIANGLE_ROOM, answer, 3);
+    if (number == STIPEHARBOR_ACCEPTED)
+        print_mesh(answer[1], answer[2]);
+    else
+        printf("refused %u %zu\n", (unsigned)number, answer[0]);
+    return 0;
+}
