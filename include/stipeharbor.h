@@ -3,7 +3,8 @@
  * A list is a pointer and a length, and every length counts elements, not bytes. What a caller keeps to, since no proof reaches C:
  * - the pointer is aligned for its type and valid for as many elements; of a list of length 0 it is not used, and may be NULL;
  * - a list that a call may write shares no memory with another list of that call, and nobody else touches a lent list while the call runs.
- * Nothing else is asked: any bytes, any floats and any lengths have an answer. No call allocates, keeps a pointer or uses a global.
+ * Nothing else is asked: any bytes, any floats and any lengths have an answer. No call allocates, keeps a pointer or uses a global; of the C library the archive
+ * needs memcpy alone.
  *
  * Each call returns 0 or the number of one refusal. A refusal leaves every list as it was, but for the last one, the answer's own. That one is written as
  * far as it goes: one that is too short gets the first numbers, and a longer one keeps what it has behind them.
