@@ -1,7 +1,7 @@
 //! The proved library's four calls in safe Rust. A path goes in; the mesh of its stripe or one
 //! [`Refusal`] comes out.
 //!
-//! ```no_run
+//! ```
 //! use stipeharbor::{tessellate, Cap, Join, Options, BEGIN, END_OPEN, LINE};
 //!
 //! let options = Options { width: 2.0, miter_limit: 4.0, join: Join::Miter, cap: Cap::Butt };

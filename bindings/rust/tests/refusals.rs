@@ -1,0 +1,119 @@
+//! Each refusal, on its smallest input, and what an accepted call answers.
+
+use stipeharbor::{compute_normal, read, root, tessellate};
+use stipeharbor::{Cap, Join, Mesh, Options, Path, Refusal, BEGIN, END_CLOSED, END_OPEN, LINE};
+
+const OPTIONS: Options = Options {
+    width: 2.0,
+    miter_limit: 4.0,
+    join: Join::Miter,
+    cap: Cap::Butt,
+};
+const VERBS: [u8; 3] = [BEGIN, LINE, END_OPEN];
+const COORDINATES: [f32; 4] = [0.0, 1.0, 2.0, 1.0];
+
+fn mesh(verbs: &[u8], coordinates: &[f32], options: Options) -> Result<Mesh, Refusal> {
+    tessellate(verbs, coordinates, options, &mut [0.0; 40], &mut [0; 24])
+}
+
+#[test]
+fn of_a_mesh() {
+    let wide = Options {
+        width: f32::NAN,
+        ..OPTIONS
+    };
+    let far = [0.0, 1.0, 2.0, 32_769.0];
+    assert_eq!(mesh(&VERBS, &COORDINATES, wide), Err(Refusal::OutOfRange));
+    assert_eq!(mesh(&[9; 4097], &[], OPTIONS), Err(Refusal::TooManyVerbs));
+    assert_eq!(mesh(&[LINE], &[], OPTIONS), Err(Refusal::Verb { place: 0 }));
+    assert_eq!(
+        mesh(&[BEGIN], &[0.0; 2], OPTIONS),
+        Err(Refusal::Verb { place: 1 })
+    );
+    assert_eq!(
+        mesh(&VERBS, &far, OPTIONS),
+        Err(Refusal::Coordinate { place: 3 })
+    );
+}
+
+#[test]
+fn of_room() {
+    let (vertices, triangles) = (4, 2);
+    let lend = |floats: usize, numbers: usize| {
+        let (mut v, mut t) = (vec![7.0; floats], vec![7; numbers]);
+        let answer = tessellate(&VERBS, &COORDINATES, OPTIONS, &mut v, &mut t);
+        assert!(answer.is_ok() || v.iter().all(|&x| x == 7.0) && t.iter().all(|&n| n == 7));
+        answer
+    };
+    assert_eq!(
+        lend(19, 6),
+        Err(Refusal::VertexRoom {
+            vertices,
+            triangles
+        })
+    );
+    assert_eq!(
+        lend(20, 5),
+        Err(Refusal::TriangleRoom {
+            vertices,
+            triangles
+        })
+    );
+    assert_eq!(
+        lend(20, 6),
+        Ok(Mesh {
+            vertices,
+            triangles
+        })
+    );
+}
+
+#[test]
+fn of_options() {
+    let square = Options {
+        cap: Cap::Square,
+        ..OPTIONS
+    };
+    let counts = |options| mesh(&[BEGIN, END_CLOSED], &[0.0; 2], options).map(|m| m.vertices);
+    assert_eq!((counts(OPTIONS), counts(square)), (Ok(0), Ok(4)));
+    let corner = [0.0, 0.0, 100.0, 0.0, 100.0, 100.0];
+    let joined = |join| {
+        let options = Options { join, ..OPTIONS };
+        let answer = mesh(&[BEGIN, LINE, LINE, END_OPEN], &corner, options);
+        answer.map(|m| (m.vertices, m.triangles))
+    };
+    assert_eq!(joined(Join::Miter), Ok((6, 4)));
+    assert_eq!(joined(Join::MiterClip), Ok((6, 4)));
+    assert_eq!(joined(Join::Bevel), Ok((7, 5)));
+}
+
+#[test]
+fn of_a_text() {
+    let text = |text: &[u8]| read(text, &mut [0; 4], &mut [0.0; 4]);
+    let path = Path {
+        verbs: 3,
+        coordinates: 4,
+    };
+    assert_eq!(text(b"M0 1L2 1"), Ok(path));
+    assert_eq!(text(&[b' '; 16_385]), Err(Refusal::TooLong));
+    assert_eq!(text(b"M0 0x"), Err(Refusal::OutOfForm { place: 4 }));
+    assert_eq!(text(b"M0 -32769"), Err(Refusal::TooLarge { place: 3 }));
+    assert_eq!(text(b"M0 0 1 1 2 2"), Err(Refusal::NoRoom));
+}
+
+#[test]
+fn of_values() {
+    assert_eq!(root(4.0), Ok(2.0));
+    assert_eq!(root(-0.0), Err(Refusal::NoRoot));
+    assert_eq!(compute_normal([1.0, 0.0], [1.0, 0.0]), Ok([-0.0, 1.0]));
+    let refused = compute_normal([1.0, 0.0], [2.5, 0.0]);
+    assert_eq!(refused, Err(Refusal::Coordinate { place: 0 }));
+}
+
+#[test]
+fn in_words() {
+    let refusal = Refusal::OutOfForm { place: 4 };
+    assert_eq!(refusal.to_string(), "refused 9 4");
+    assert_eq!((refusal.number(), refusal.place()), (9, 4));
+    assert_eq!((Refusal::NoRoot.number(), Refusal::NoRoot.place()), (13, 0));
+}
