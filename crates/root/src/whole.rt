@@ -45,6 +45,17 @@ fn is_near(n: u64, s: u64) -> bool
     s * s < n + s && n <= s * s + s
 }
 
+// The next number towards the root.
+fn neighbour(n: u64, s: u64) -> u64
+    requires { ⌜ (8388608 ≤ s) × (s < 16777216) ⌝ }
+    ensures { λ r. ⌜ r ≤ 16777216 ⌝ }
+{
+    if n < s * s {
+        return s - 1;
+    }
+    s + 1
+}
+
 // The nearest number from the whole part of the root, where no guess passed.
 fn decided(n: u64) -> u64
     requires { ⌜ Operands n ⌝ }
@@ -64,11 +75,9 @@ pub fn nearest(b: u32, n: u64) -> u64
     if is_near(n, s) {
         return s;
     }
-    if is_near(n, s - 1) {
-        return s - 1;
-    }
-    if is_near(n, s + 1) {
-        return s + 1;
+    let r = neighbour(n, s);
+    if is_near(n, r) {
+        return r;
     }
     decided(n)
 }

@@ -14,35 +14,20 @@ is-near-requires c κs = search needs
 returns : tie.Need-returns
 returns c = c .before .is-near .ensures (subst T (sym (c .if1 .taken)) tt)
 
-sub-is-near : tie.Need-sub-is-near
-sub-is-near c = search needs
+neighbour-requires : tie.Need-neighbour-requires
+neighbour-requires c κs = search needs
 
 is-near-requires-2 : tie.Need-is-near-requires-2
 is-near-requires-2 c κs = search needs
 
-sub-result : tie.Need-sub-result
-sub-result c = search needs
-
 returns-2 : tie.Need-returns-2
 returns-2 c = c .before .is-near2 .ensures (subst T (sym (c .if2 .taken)) tt)
-
-add-is-near : tie.Need-add-is-near
-add-is-near c = search needs
-
-is-near-requires-3 : tie.Need-is-near-requires-3
-is-near-requires-3 c κs = search needs
-
-add-result : tie.Need-add-result
-add-result c = search needs
-
-returns-3 : tie.Need-returns-3
-returns-3 c = c .before .is-near3 .ensures (subst T (sym (c .if3 .taken)) tt)
 
 decided-requires : tie.Need-decided-requires
 decided-requires c κs = search needs
 
-returns-4 : tie.Need-returns-4
-returns-4 c = search needs
+returns-3 : tie.Need-returns-3
+returns-3 c = search needs
 
 pub nearest-spec : {M : Type 1} → statement M
 nearest-spec =
@@ -51,13 +36,8 @@ nearest-spec =
     guess-requires
     is-near-requires
     returns
-    sub-is-near
+    neighbour-requires
     is-near-requires-2
-    sub-result
     returns-2
-    add-is-near
-    is-near-requires-3
-    add-result
-    returns-3
     decided-requires
-    returns-4)
+    returns-3)
