@@ -10,7 +10,8 @@ use Rattle.endpoint.specs.declared.Endpoint.{Endpoint}
 use Rattle.endpoint.specs.declared.EndpointData.{EndpointData}
 use Rattle.endpoint.specs.declared.InnerJoin.the-variants.{Neither}
 use Rattle.endpoint.specs.declared.SidePoints.{SidePoints}
-use Rattle.join.specs.Record.{joinOf}
+use Rattle.join.specs.Record.{turnOf, cornersOf, sidePositionsOf}
+use Rattle.join.specs.declared.record.Corners.{Corners}
 use Rattle.path.specs.declared.options.Stroke.{Stroke}
 use Rattle.course.specs.Leg.{firstLegOf, nextLegOf}
 use Rattle.course.specs.declared.leg.Leg.{Leg}
@@ -30,11 +31,16 @@ dataOf o p a positive negative = record {
   «inner_join» = Neither;
 }
 
--- the join where a leg ends and the next begins
+-- the endpoint where a leg ends, before its sides are worked
+unfoldable pub unworkedOf : Stroke → Leg → EndpointData
+unworkedOf o leg = let none = singleOf (leg .to .position) in dataOf o (leg .to) (leg .end) none none
+
+-- the join where a leg ends and the next begins: what is decided of its sides, and the endpoint with them worked
+unfoldable pub cornersAt : Stroke → Leg → Leg → Corners
+cornersAt o leg next = cornersOf (leg .edge) (next .edge) (turnOf (unworkedOf o leg) (leg .start) (next .end) (o .«miter_limit»))
+
 unfoldable pub jointOf : Stroke → Leg → Leg → EndpointData
-jointOf o leg next =
-    let unworked = singleOf (leg .to .position) in
-    joinOf (leg .edge) (dataOf o (leg .to) (leg .end) unworked unworked) (next .edge) (leg .start) (next .end) (o .«miter_limit»)
+jointOf o leg next = sidePositionsOf (leg .edge) (unworkedOf o leg) (next .edge) (cornersAt o leg next) (o .«miter_limit»)
 
 unfoldable pub capOf : Stroke → Endpoint → Float → Point → Point → Point → EndpointData
 capOf o p a positive negative outward =

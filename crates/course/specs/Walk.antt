@@ -1,12 +1,12 @@
--- A run point by point: the leg that was reached, and the joints and legs that a point brings. Assumes nothing.
-use mathlib.Core.Bool.{true, cond}
+-- A run point by point: the leg that was reached, and the joints that a point brings. Assumes nothing.
+use mathlib.Core.Bool.{Bool, true, not, _&&_, cond}
 use mathlib.Core.List.{List, [], _∷_}
 use lib.Ieee.{Float}
 use Rattle.endpoint.specs.declared.Endpoint.{Endpoint}
 use Rattle.endpoint.specs.declared.EndpointData.{EndpointData}
 use Rattle.path.specs.declared.options.Stroke.{Stroke}
 use Rattle.course.specs.Kept.{near, keptBehind}
-use Rattle.course.specs.Leg.{nextLegOf, legsFrom}
+use Rattle.course.specs.Leg.{nextLegOf}
 use Rattle.course.specs.Joint.{jointOf, jointsFrom}
 use Rattle.course.specs.declared.leg.Leg.{Leg}
 
@@ -14,23 +14,23 @@ use Rattle.course.specs.declared.leg.Leg.{Leg}
 abbrev pub advanced : Stroke → Leg → Endpoint → List EndpointData
 advanced o leg p = jointOf o leg (nextLegOf (o .«half_width») leg p) ∷ []
 
--- the next point may be dropped
-unfoldable pub visitOf : Float → Leg → Endpoint → Leg
-visitOf h leg p = cond (near (leg .to) p) leg (nextLegOf h leg p)
+-- the next point is dropped where it is near, unless it is sure to be kept
+abbrev pub drops : Bool → Leg → Endpoint → Bool
+drops sure leg p = not sure && near (leg .to) p
 
-unfoldable pub visited : Stroke → Leg → Endpoint → List EndpointData
-visited o leg p = cond (near (leg .to) p) [] (advanced o leg p)
+unfoldable pub visitOf : Bool → Float → Leg → Endpoint → Leg
+visitOf sure h leg p = cond (drops sure leg p) leg (nextLegOf h leg p)
 
-unfoldable pub visitedLegs : Float → Leg → Endpoint → List Leg
-visitedLegs h leg p = cond (near (leg .to) p) [] (nextLegOf h leg p ∷ [])
+unfoldable pub visited : Bool → Stroke → Leg → Endpoint → List EndpointData
+visited sure o leg p = cond (drops sure leg p) [] (advanced o leg p)
 
--- the points ps, each of which may be dropped: the leg reached, and the joints and the legs on the way
-unfoldable pub walked : Float → Leg → List Endpoint → Leg
-walked h leg [] = leg
-walked h leg (p ∷ ps) = walked h (visitOf h leg p) ps
+-- the points ps: which are kept behind l, the leg reached, and the joints on the way
+abbrev pub keeps : Bool → Endpoint → List Endpoint → List Endpoint
+keeps sure l ps = cond sure ps (keptBehind l ps)
 
-abbrev pub passed : Stroke → Leg → List Endpoint → List EndpointData
-passed o leg ps = jointsFrom true o leg (keptBehind (leg .to) ps)
+unfoldable pub walked : Bool → Float → Leg → List Endpoint → Leg
+walked sure h leg [] = leg
+walked sure h leg (p ∷ ps) = walked sure h (visitOf sure h leg p) ps
 
-abbrev pub passedLegs : Float → Leg → List Endpoint → List Leg
-passedLegs h leg ps = legsFrom h leg (keptBehind (leg .to) ps)
+abbrev pub passed : Bool → Stroke → Leg → List Endpoint → List EndpointData
+passed sure o leg ps = jointsFrom true o leg (keeps sure (leg .to) ps)

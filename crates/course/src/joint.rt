@@ -5,14 +5,17 @@ use endpoint::EndpointData;
 use endpoint::InnerJoin;
 use endpoint::SidePoints;
 use endpoint::single;
-use join::record::join_of;
+use join::record::Corners;
+use join::record::compute_join_side_positions;
+use join::record::corners_of;
+use join::record::turn_of;
 use path::options::Stroke;
 use plane::vector::Point;
 use plane::vector::negated;
 use plane::vector::plus;
 use plane::vector::times;
 ghost use mathlib.Core.Path.{_≡_};
-ghost use Rattle.course.specs.Joint.{dataOf, capOf, startCapOf, endCapOf, jointOf};
+ghost use Rattle.course.specs.Joint.{dataOf, unworkedOf, cornersAt, capOf, startCapOf, endCapOf, jointOf};
 
 // An endpoint with its advancement and its sides.
 fn data_of(
@@ -41,14 +44,29 @@ fn data_of(
     }
 }
 
-// The join where one leg ends and the next begins.
-pub fn joint_of(o: Stroke, leg: Leg, next: Leg) -> EndpointData
-    ensures { λ r. ⌜ r ≡ jointOf o leg next ⌝ }
+// The endpoint where a leg ends, before its sides are worked.
+fn unworked(o: Stroke, leg: Leg) -> EndpointData
+    ensures { λ r. ⌜ r ≡ unworkedOf o leg ⌝ }
 {
     let p = leg.to;
-    let unworked = single(p.position);
-    let e = data_of(o, p, leg.end, unworked, unworked);
-    join_of(leg.edge, e, next.edge, leg.start, next.end, o.miter_limit)
+    let none = single(p.position);
+    data_of(o, p, leg.end, none, none)
+}
+
+// The join where one leg ends and the next begins: what is decided of its sides.
+pub fn corners_at(o: Stroke, leg: Leg, next: Leg) -> Corners
+    ensures { λ r. ⌜ r ≡ cornersAt o leg next ⌝ }
+{
+    let e = turn_of(unworked(o, leg), leg.start, next.end, o.miter_limit);
+    corners_of(leg.edge, next.edge, e)
+}
+
+// The same, its sides worked.
+pub fn joint_of(o: Stroke, leg: Leg, next: Leg, c: Corners) -> EndpointData
+    requires { ⌜ c ≡ cornersAt o leg next ⌝ }
+    ensures { λ r. ⌜ r ≡ jointOf o leg next ⌝ }
+{
+    compute_join_side_positions(leg.edge, unworked(o, leg), next.edge, c, o.miter_limit)
 }
 
 // The two side points at p, each moved outward by the clip.

@@ -1,6 +1,5 @@
--- For the layers above: `Runs`, laws of runs one behind the other, with the bounds of their counts. `Passing` is what both passes share; `Counting` and
--- `Drawing` are what each does.
+-- For the layers above: `Runs`, laws of runs one behind the other, with the bounds of their counts. `Passing` is how far a pass over the verbs has come,
+-- `Drawing` what it has done.
 pub mod Runs
 mod Passing
-mod Counting
 mod Drawing

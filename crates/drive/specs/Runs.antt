@@ -12,7 +12,6 @@ use Rattle.course.specs.Leg.{legsOf, firstShort}
 use Rattle.course.specs.declared.leg.Leg.{Leg}
 use Rattle.strip.specs.Triangle.{Tri}
 use Rattle.run.specs.Run.{Shape, shapeOf, shapeCount, shapeVertices, shapeTriangles}
-use Rattle.count.specs.declared.Count.{Count}
 
 -- "A path is a list of verb bytes .. and a list of coordinates, two to each begin or line."
 abbrev pub runsOf : List ℕ → List Float → List (Run Endpoint)
@@ -42,5 +41,11 @@ meshEdges o [] = []
 meshEdges o (r ∷ rs) = legsOf (r .closed) (o .«half_width») (keptPoints (r .closed) (r .points)) ++ meshEdges o rs
 
 -- how many of each there are, and the first short edge
+pub record Count : Type 0 where
+  pub vertices : ℕ
+  pub triangles : ℕ
+  pub legs : ℕ
+  pub short : ℕ
+
 abbrev pub meshCounts : Stroke → List (Run Endpoint) → Count
 meshCounts o rs = record { vertices = meshCount o rs; triangles = length (meshTriangles o 0 rs); legs = length (meshEdges o rs); short = firstShort (meshEdges o rs) }

@@ -1,4 +1,4 @@
-// The writing pass.
+// A pass over the runs of a path: it counts what they draw and, where it writes, writes it.
 use crate::cursor::Cursor;
 use crate::cursor::moved;
 use crate::cursor::start;
@@ -7,13 +7,22 @@ use path::verbs::END_CLOSED;
 use path::verbs::names_point;
 use run::draw::Drawn;
 use run::draw::draw_run;
+ghost use mathlib.Core.Bool.{cond};
 ghost use mathlib.Core.Path.{_≡_};
-ghost use Rattle.lists.specs.Over.{over};
 ghost use Rattle.points.specs.Points.{endpointsOf};
-ghost use Rattle.strip.specs.Triangle.{flatT};
-ghost use Rattle.drive.specs.Runs.{runsOf, meshVertices, meshTriangles};
+ghost use Rattle.drive.specs.Runs.{runsOf};
 ghost use Rattle.drive.specs.Cursor.{endedOf};
 ghost use Rattle.drive.specs.Passes.{Paired, Inside, Has, Puts, undrawn};
+
+// Where a pass that writes goes on; one that only counts is lent no places.
+fn place_of(write: bool, place: usize) -> usize
+    ensures { λ r. ⌜ r ≡ cond write place 0 ⌝ }
+{
+    if write {
+        return place;
+    }
+    0
+}
 
 // A verb that ends a run draws it, in the parts of the lists that begin where the last run ended.
 fn draw_verb(
@@ -24,10 +33,11 @@ fn draw_verb(
     g: Cursor,
     verb: u8,
     d: Drawn,
+    write: bool,
 ) -> Drawn
     requires { ⌜ Inside g (now coords) ⌝ }
-    requires { ⌜ Has o d (endedOf g verb (endpointsOf 0 (now coords))) (now v) (now t) ⌝ }
-    ensures { λ r. ⌜ Puts o d (endedOf g verb (endpointsOf 0 (now (coords .entry)))) (now (v .entry)) (now (v .exit)) (now (t .entry)) (now (t .exit)) r ⌝ }
+    requires { ⌜ Has write o d (endedOf g verb (endpointsOf 0 (now coords))) (now v) (now t) ⌝ }
+    ensures { λ r. ⌜ Puts write o d (endedOf g verb (endpointsOf 0 (now (coords .entry)))) (now (v .entry)) (now (v .exit)) (now (t .entry)) (now (t .exit)) r ⌝ }
 {
     let n = d.vertices;
     let m = d.triangles;
@@ -36,8 +46,8 @@ fn draw_verb(
     }
     let from = 2 * g.from;
     let to = 2 * (g.from + g.size);
-    let at = 5 * n;
-    let on = 3 * m;
+    let at = place_of(write, 5 * n);
+    let on = place_of(write, 3 * m);
     let run = draw_run(
         &mut v[at..],
         &mut t[on..],
@@ -46,6 +56,7 @@ fn draw_verb(
         g.from as u32,
         verb == END_CLOSED,
         n,
+        write,
     );
     Drawn {
         vertices: n + run.vertices,
@@ -53,11 +64,17 @@ fn draw_verb(
     }
 }
 
-pub fn draw_runs(v: &mut [f32], t: &mut [u16], o: Stroke, verbs: &[u8], coords: &[f32])
+pub fn draw_runs(
+    v: &mut [f32],
+    t: &mut [u16],
+    o: Stroke,
+    verbs: &[u8],
+    coords: &[f32],
+    write: bool,
+) -> Drawn
     requires { ⌜ Paired (now verbs) (now coords) ⌝ }
-    requires { ⌜ Has o undrawn (runsOf (now verbs) (now coords)) (now v) (now t) ⌝ }
-    ensures { λ _. ⌜ now (v .exit) ≡ over (meshVertices o (runsOf (now (verbs .entry)) (now (coords .entry)))) (now (v .entry)) ⌝ }
-    ensures { λ _. ⌜ now (t .exit) ≡ over (flatT (meshTriangles o 0 (runsOf (now (verbs .entry)) (now (coords .entry))))) (now (t .entry)) ⌝ }
+    requires { ⌜ Has write o undrawn (runsOf (now verbs) (now coords)) (now v) (now t) ⌝ }
+    ensures { λ r. ⌜ Puts write o undrawn (runsOf (now (verbs .entry)) (now (coords .entry))) (now (v .entry)) (now (v .exit)) (now (t .entry)) (now (t .exit)) r ⌝ }
 {
     let mut d = Drawn {
         vertices: 0,
@@ -67,8 +84,9 @@ pub fn draw_runs(v: &mut [f32], t: &mut [u16], o: Stroke, verbs: &[u8], coords: 
     let mut i: usize = 0;
     while i < verbs.len() {
         let verb = verbs[i];
-        d = draw_verb(v, t, o, coords, g, verb, d);
+        d = draw_verb(v, t, o, coords, g, verb, d, write);
         g = moved(g, verb);
         i += 1;
     }
+    d
 }

@@ -1,4 +1,3 @@
 // The passes over a path's verbs: each end verb ends a run, which is counted or drawn.
-pub mod count_runs;
 mod cursor;
 pub mod draw_runs;

@@ -2,8 +2,6 @@
 use lib.Ieee.{Float}
 use Rattle.plane.specs.Vector.{plusOf, minusOf, timesOf, overOf, turnedOf, lengthOf, normalizeOf}
 use Rattle.plane.specs.declared.vector.Point.{Point}
-use Rattle.endpoint.specs.declared.Side.{Side}
-use Rattle.endpoint.specs.declared.Side.the-variants.{Positive, Negative}
 use Rattle.join.specs.declared.edge.Edge.{Edge}
 use Rattle.join.specs.declared.edge.EdgeSide.{EdgeSide}
 
@@ -22,7 +20,3 @@ edgeOf from to h =
       positive = edgeSideOf (plusOf from mh) (plusOf to mh);
       negative = edgeSideOf (minusOf from mh) (minusOf to mh);
     }
-
-abbrev pub sideOf : Edge → Side → EdgeSide
-sideOf e Positive = e .positive
-sideOf e Negative = e .negative

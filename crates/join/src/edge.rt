@@ -1,6 +1,5 @@
 // Edges and their sides (rule 4). Both sides' directions belong to the edge, so they are had once
 // and serve the joins at both its ends.
-use endpoint::Side;
 use plane::vector::Point;
 use plane::vector::length;
 use plane::vector::minus;
@@ -10,7 +9,7 @@ use plane::vector::plus;
 use plane::vector::times;
 use plane::vector::turned;
 ghost use mathlib.Core.Path.{_≡_};
-ghost use Rattle.join.specs.Edge.{edgeSideOf, edgeOf, sideOf};
+ghost use Rattle.join.specs.Edge.{edgeSideOf, edgeOf};
 
 // One side of an edge: the points beside its two ends, and the direction from one to the other.
 pub struct EdgeSide {
@@ -48,14 +47,5 @@ pub fn edge_of(from: Point, to: Point, h: f32) -> Edge
         t: t,
         positive: edge_side(plus(from, offset), plus(to, offset)),
         negative: edge_side(minus(from, offset), minus(to, offset)),
-    }
-}
-
-pub fn side_of(e: Edge, side: Side) -> EdgeSide
-    ensures { λ r. ⌜ r ≡ sideOf e side ⌝ }
-{
-    match side {
-        Side::Positive => e.positive,
-        Side::Negative => e.negative,
     }
 }

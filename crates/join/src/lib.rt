@@ -1,7 +1,6 @@
 // The join rule: rules 4 to 6 of document 01, with lyon's `compute_join_side_positions`.
 mod clip;
-mod corner;
 pub mod edge;
 mod logic;
 pub mod record;
-mod side;
+pub mod side;

@@ -1,117 +1,170 @@
-// lyon's `compute_join_side_positions`: the record of an endpoint goes in by value and comes back with a side set.
-use crate::corner::corner_of;
+// Both sides of a join, and the record of its endpoint: it goes in by value and comes back with its sides set.
 use crate::edge::Edge;
-use crate::side::Joined;
-use crate::side::join_side;
+use crate::side::Decided;
+use crate::side::Turn;
+use crate::side::beyond;
+use crate::side::decide;
+use crate::side::tip_point;
 use endpoint::EndpointData;
 use endpoint::InnerJoin;
 use endpoint::Side;
+use endpoint::side_sign;
+use plane::normal::join_normal;
+use plane::vector::Point;
+use plane::vector::plus;
+use plane::vector::times;
 ghost use mathlib.Core.Path.{_≡_};
-ghost use Rattle.join.specs.Record.{withInner, innerJoinOf, withSideOf, joinSidePositionsOf, joinOf};
+ghost use Rattle.join.specs.Record.{turnOf, sideNormalOf, cornersOf, cornerCountOf, innerJoinOf, sidePositionsOf, joinOf};
 
-fn with_positive(i: InnerJoin) -> InnerJoin
-    ensures { λ r. ⌜ r ≡ withInner i Side.Positive ⌝ }
+// One side's normal, and what is decided of it.
+pub struct Corner {
+    pub normal: Point,
+    pub decided: Decided,
+}
+
+pub struct Corners {
+    pub positive: Corner,
+    pub negative: Corner,
+}
+
+// prev and next are the advancements of the endpoints before and after a join: as in the source, an edge is as long as its ends'
+// advancements differ.
+pub fn turn_of(join: EndpointData, prev: f32, next: f32, limit: f32) -> Turn
+    ensures { λ r. ⌜ r ≡ turnOf join prev next limit ⌝ }
 {
-    match i {
-        InnerJoin::Neither => InnerJoin::Positive,
-        InnerJoin::Positive => InnerJoin::Positive,
-        InnerJoin::Negative => InnerJoin::Both,
-        InnerJoin::Both => InnerJoin::Both,
+    let line_join = join.line_join;
+    Turn {
+        half_width: join.half_width,
+        limit: limit,
+        before: join.advancement - prev,
+        after: next - join.advancement,
+        line_join: line_join,
     }
 }
 
-fn with_negative(i: InnerJoin) -> InnerJoin
-    ensures { λ r. ⌜ r ≡ withInner i Side.Negative ⌝ }
+// The normal on one side, between the side's directions.
+fn side_normal(v0: Point, v1: Point, side: Side) -> Point
+    ensures { λ r. ⌜ r ≡ sideNormalOf v0 v1 side ⌝ }
 {
-    match i {
-        InnerJoin::Neither => InnerJoin::Negative,
-        InnerJoin::Positive => InnerJoin::Both,
-        InnerJoin::Negative => InnerJoin::Negative,
-        InnerJoin::Both => InnerJoin::Both,
-    }
+    times(join_normal(v0, v1), side_sign(side))
 }
 
-// The inner joins with one side more.
-fn with_inner(i: InnerJoin, side: Side) -> InnerJoin
-    ensures { λ r. ⌜ r ≡ withInner i side ⌝ }
+// Both sides of a join, decided.
+pub fn corners_of(before: Edge, after: Edge, e: Turn) -> Corners
+    ensures { λ r. ⌜ r ≡ cornersOf before after e ⌝ }
 {
-    match side {
-        Side::Positive => with_positive(i),
-        Side::Negative => with_negative(i),
-    }
-}
-
-// The inner joins of a record once a side is worked.
-fn inner_join_of(i: InnerJoin, side: Side, inner: bool) -> InnerJoin
-    ensures { λ r. ⌜ r ≡ innerJoinOf i side inner ⌝ }
-{
-    if inner {
-        return with_inner(i, side);
-    }
-    i
-}
-
-// The record with one side set.
-fn with_side(e: EndpointData, side: Side, j: Joined) -> EndpointData
-    ensures { λ r. ⌜ r ≡ withSideOf e side j ⌝ }
-{
-    let position = e.position;
-    let points = j.points;
-    let line_join = e.line_join;
-    let id = e.id;
-    let positive = e.positive;
-    let negative = e.negative;
-    let inner = e.inner_join;
-    let inner_join = inner_join_of(inner, side, j.inner);
-    match side {
-        Side::Positive => EndpointData {
-            position: position,
-            half_width: e.half_width,
-            advancement: e.advancement,
-            line_join: line_join,
-            id: id,
-            positive: points,
-            negative: negative,
-            fold_positive: j.fold,
-            fold_negative: e.fold_negative,
-            inner_join: inner_join,
+    let along = plus(before.t, after.t);
+    let bp = before.positive;
+    let ap = after.positive;
+    let bn = before.negative;
+    let an = after.negative;
+    let p = side_normal(bp.v, ap.v, Side::Positive);
+    let n = side_normal(bn.v, an.v, Side::Negative);
+    Corners {
+        positive: Corner {
+            normal: p,
+            decided: decide(bp.v, ap.v, p, along, Side::Positive, e),
         },
-        Side::Negative => EndpointData {
-            position: position,
-            half_width: e.half_width,
-            advancement: e.advancement,
-            line_join: line_join,
-            id: id,
-            positive: positive,
-            negative: points,
-            fold_positive: e.fold_positive,
-            fold_negative: j.fold,
-            inner_join: inner_join,
+        negative: Corner {
+            normal: n,
+            decided: decide(bn.v, an.v, n, along, Side::Negative, e),
         },
     }
 }
 
-// One side of the join between two edges. prev and next are the advancements of the endpoints before
-// and after it: as in the source, an edge is as long as its ends' advancements differ.
+// How many vertices a side has.
+pub fn corner_count(c: Corner) -> usize
+    ensures { λ r. ⌜ r ≡ cornerCountOf c ⌝ }
+{
+    let d = c.decided;
+    if d.single {
+        return 1;
+    }
+    2
+}
+
+// Which sides are inner joins.
+fn inner_join_of(positive: bool, negative: bool) -> InnerJoin
+    ensures { λ r. ⌜ r ≡ innerJoinOf positive negative ⌝ }
+{
+    if positive {
+        return if negative {
+            InnerJoin::Both
+        } else {
+            InnerJoin::Positive
+        };
+    }
+    if negative {
+        return InnerJoin::Negative;
+    }
+    InnerJoin::Neither
+}
+
+// lyon's `compute_join_side_positions`, for both sides: their points, from what is decided.
 pub fn compute_join_side_positions(
     before: Edge,
     join: EndpointData,
     after: Edge,
-    prev: f32,
-    next: f32,
+    c: Corners,
     limit: f32,
-    side: Side,
 ) -> EndpointData
-    ensures { λ r. ⌜ r ≡ joinSidePositionsOf before join after prev next limit side ⌝ }
+    ensures { λ r. ⌜ r ≡ sidePositionsOf before join after c limit ⌝ }
 {
-    let c = corner_of(before, after, side);
-    let prev_length = join.advancement - prev;
-    let next_length = next - join.advancement;
-    let j = join_side(c, join, prev_length, next_length, limit);
-    with_side(join, side, j)
+    let position = join.position;
+    let h = join.half_width;
+    let line_join = join.line_join;
+    let id = join.id;
+    let cp = c.positive;
+    let cn = c.negative;
+    let p = cp.decided;
+    let n = cn.decided;
+    let bp = before.positive;
+    let ap = after.positive;
+    let bn = before.negative;
+    let an = after.negative;
+    let positive = if p.single {
+        tip_point(cp.normal, position, h)
+    } else {
+        beyond(
+            p.inner,
+            bp.to,
+            ap.from,
+            cp.normal,
+            position,
+            h,
+            limit,
+            line_join,
+        )
+    };
+    let negative = if n.single {
+        tip_point(cn.normal, position, h)
+    } else {
+        beyond(
+            n.inner,
+            bn.to,
+            an.from,
+            cn.normal,
+            position,
+            h,
+            limit,
+            line_join,
+        )
+    };
+    EndpointData {
+        position: position,
+        half_width: h,
+        advancement: join.advancement,
+        line_join: line_join,
+        id: id,
+        positive: positive,
+        negative: negative,
+        fold_positive: p.fold,
+        fold_negative: n.fold,
+        inner_join: inner_join_of(p.inner, n.inner),
+    }
 }
 
-// Both sides of a join, the positive one first.
+// A join worked whole.
 pub fn join_of(
     before: Edge,
     join: EndpointData,
@@ -122,6 +175,6 @@ pub fn join_of(
 ) -> EndpointData
     ensures { λ r. ⌜ r ≡ joinOf before join after prev next limit ⌝ }
 {
-    let e = compute_join_side_positions(before, join, after, prev, next, limit, Side::Positive);
-    compute_join_side_positions(before, e, after, prev, next, limit, Side::Negative)
+    let c = corners_of(before, after, turn_of(join, prev, next, limit));
+    compute_join_side_positions(before, join, after, c, limit)
 }

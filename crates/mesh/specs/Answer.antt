@@ -1,12 +1,13 @@
 -- The mesh call's answer. Assumes nothing.
-use Prim.Native.Nat.{ℕ}
+use Prim.Native.Nat.{ℕ, _*_, _≤_}
 use mathlib.Core.Bool.{Bool, true, false, cond}
 use lib.Dec.{ltb}
 use Rattle.refusals.specs.Numbers.{numberOf, accepted, outOfRange, tooManyVerbs, misplacedVerb, badCoordinate, shortEdge, vertexRoom, triangleRoom}
-use Rattle.count.specs.declared.Count.{Count}
+use Rattle.drive.specs.Runs.{Count}
 use Rattle.mesh.specs.declared.answer.Meshed.{Meshed}
 use Rattle.mesh.specs.declared.answer.Meshed.the-variants.{Mesh, OutOfRange, TooManyVerbs, Verb, Coordinate, ShortEdge, VertexRoom, TriangleRoom}
 use Rattle.mesh.specs.declared.answer.MeshAnswer.{MeshAnswer}
+use Rattle.mesh.specs.declared.answer.Rooms.{Rooms}
 
 -- "0, 6 and 7 carry both counts; the others carry zero."
 abbrev pub withCounts : ℕ → ℕ → ℕ → MeshAnswer
@@ -36,10 +37,15 @@ isMesh (ShortEdge i) = false
 isMesh (VertexRoom n m) = false
 isMesh (TriangleRoom n m) = false
 
--- Refusals 5, 6 and 7, in their order, for an accepted path: a short edge, "too few vertex places", "too few triangle places"
+-- Refusals 6 and 7, in their order, of n vertices and m triangles: "too few vertex places", "too few triangle places"
+abbrev pub roomedOf : ℕ → ℕ → ℕ → ℕ → Meshed
+roomedOf n m vertexPlaces trianglePlaces = cond (ltb vertexPlaces n) (VertexRoom n m) (cond (ltb trianglePlaces m) (TriangleRoom n m) (Mesh n m))
+
+-- Refusals 5, 6 and 7, in their order, for an accepted path: a short edge, or too little room
 unfoldable pub judgedOf : Count → ℕ → ℕ → Meshed
-judgedOf c vertexPlaces trianglePlaces =
-    cond (ltb (c .short) (c .legs)) (ShortEdge (c .short))
-    (cond (ltb vertexPlaces (c .vertices)) (VertexRoom (c .vertices) (c .triangles))
-    (cond (ltb trianglePlaces (c .triangles)) (TriangleRoom (c .vertices) (c .triangles))
-    (Mesh (c .vertices) (c .triangles))))
+judgedOf c vertexPlaces trianglePlaces = cond (ltb (c .short) (c .legs)) (ShortEdge (c .short)) (roomedOf (c .vertices) (c .triangles) vertexPlaces trianglePlaces)
+
+-- Room for the most that so many coordinates can need, two of them to a point (drive's `runs-bounded`)
+pub record Plenty (r : Rooms) (coords : ℕ) : Type 0 where
+  pub vertices : 2 * coords ≤ r .vertices
+  pub triangles : 2 * coords ≤ r .triangles

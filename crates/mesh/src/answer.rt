@@ -1,7 +1,8 @@
 // What the mesh call answers.
-use count::Count;
+use run::draw::Drawn;
+ghost use mathlib.Core.Bool.{true};
 ghost use mathlib.Core.Path.{_≡_};
-ghost use Rattle.mesh.specs.Answer.{meshAnswerOf, withCounts, withPlace, isMesh, judgedOf};
+ghost use Rattle.mesh.specs.Answer.{meshAnswerOf, withCounts, withPlace, isMesh, roomedOf, Plenty};
 
 // A mesh, or the first refusal by number. A mesh and the refusals for want of room have both counts: vertices, then triangles.
 pub enum Meshed {
@@ -30,19 +31,29 @@ pub struct MeshAnswer {
     pub triangles: usize,
 }
 
-// Refusals 5, 6 and 7, by the count of a path and the places that are lent.
-pub fn judged(c: Count, vertex_room: usize, triangle_room: usize) -> Meshed
-    ensures { λ r. ⌜ r ≡ judgedOf c «vertex_room» «triangle_room» ⌝ }
+// How many vertices and triangles there is room for.
+pub struct Rooms {
+    pub vertices: usize,
+    pub triangles: usize,
+}
+
+// Whether there is room for the most that so many coordinates can need: four vertices and four triangles to a point.
+pub fn is_plenty(r: Rooms, coords: usize) -> bool
+    ensures { λ p. ⌜ (p ≡ true → Plenty r coords) ⌝ }
 {
-    let n = c.vertices;
-    let m = c.triangles;
-    if c.short < c.legs {
-        return Meshed::ShortEdge(c.short);
-    }
-    if vertex_room < n {
+    coords <= r.vertices / 2 && coords <= r.triangles / 2
+}
+
+// Refusals 6 and 7, by what a path needs. No path earns refusal 5.
+pub fn judged(d: Drawn, r: Rooms) -> Meshed
+    ensures { λ a. ⌜ a ≡ roomedOf (d .vertices) (d .triangles) (r .vertices) (r .triangles) ⌝ }
+{
+    let n = d.vertices;
+    let m = d.triangles;
+    if r.vertices < n {
         return Meshed::VertexRoom(n, m);
     }
-    if triangle_room < m {
+    if r.triangles < m {
         return Meshed::TriangleRoom(n, m);
     }
     Meshed::Mesh(n, m)

@@ -2,9 +2,10 @@
 pub mod answer;
 
 use crate::answer::Meshed;
+use crate::answer::Rooms;
 use crate::answer::fits;
+use crate::answer::is_plenty;
 use crate::answer::judged;
-use drive::count_runs::count_runs;
 use drive::draw_runs::draw_runs;
 use path::Checked;
 use path::check_path;
@@ -12,12 +13,35 @@ use path::options::Options;
 use path::options::Stroke;
 use path::options::StrokeAnswer;
 use path::options::stroke_of;
+use run::draw::Drawn;
 ghost use mathlib.Core.Path.{_≡_};
 ghost use Rattle.path.specs.Path.{Sound};
 ghost use Rattle.drive.specs.Runs.{runsOf};
-ghost use Rattle.mesh.specs.Mesh.{Outcome, acceptedOf, strokedOf, outcomeOf};
+ghost use Rattle.mesh.specs.Mesh.{acceptedOf, strokedOf, outcomeOf};
+ghost use Rattle.mesh.specs.Parts.{Prepared, Counted};
 
-// A path that is accepted is counted, and drawn where there is room for all of it.
+// What an accepted path needs, counted by a pass that is lent no places.
+fn count_accepted(
+    verbs: &[u8],
+    coords: &[f32],
+    o: Stroke,
+    vertices: &mut [f32],
+    triangles: &mut [u16],
+) -> Drawn
+    requires { ⌜ Sound (now verbs) (now coords) ⌝ }
+    ensures { λ r. ⌜ Counted o (runsOf (now (verbs .entry)) (now (coords .entry))) (now (vertices .entry)) (now (vertices .exit)) (now (triangles .entry)) (now (triangles .exit)) r ⌝ }
+{
+    draw_runs(
+        &mut vertices[..0],
+        &mut triangles[..0],
+        o,
+        verbs,
+        coords,
+        false,
+    )
+}
+
+// An accepted path is drawn where there is room for all of it. It is counted first only where the room might not do.
 fn mesh_accepted(
     verbs: &[u8],
     coords: &[f32],
@@ -25,13 +49,22 @@ fn mesh_accepted(
     vertices: &mut [f32],
     triangles: &mut [u16],
 ) -> Meshed
+    requires { ⌜ Prepared o ⌝ }
     requires { ⌜ Sound (now verbs) (now coords) ⌝ }
     ensures { λ r. ⌜ record { answer = r; vertices = now (vertices .exit); triangles = now (triangles .exit) } ≡ acceptedOf (now (vertices .entry)) (now (triangles .entry)) o (runsOf (now (verbs .entry)) (now (coords .entry))) ⌝ }
 {
-    let c = count_runs(o, verbs, coords);
-    let answer = judged(c, vertices.len() / 5, triangles.len() / 3);
+    let rooms = Rooms {
+        vertices: vertices.len() / 5,
+        triangles: triangles.len() / 3,
+    };
+    if is_plenty(rooms, coords.len()) {
+        let d = draw_runs(vertices, triangles, o, verbs, coords, true);
+        return Meshed::Mesh(d.vertices, d.triangles);
+    }
+    let c = count_accepted(verbs, coords, o, vertices, triangles);
+    let answer = judged(c, rooms);
     if fits(answer) {
-        draw_runs(vertices, triangles, o, verbs, coords);
+        draw_runs(vertices, triangles, o, verbs, coords, true);
     }
     answer
 }
@@ -43,6 +76,7 @@ fn mesh_stroked(
     vertices: &mut [f32],
     triangles: &mut [u16],
 ) -> Meshed
+    requires { ⌜ Prepared o ⌝ }
     ensures { λ r. ⌜ record { answer = r; vertices = now (vertices .exit); triangles = now (triangles .exit) } ≡ strokedOf (now (vertices .entry)) (now (triangles .entry)) (now (verbs .entry)) (now (coords .entry)) o ⌝ }
 {
     match check_path(verbs, coords) {

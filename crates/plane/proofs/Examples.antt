@@ -5,7 +5,7 @@ use mathlib.Core.List.{List, [], _∷_}
 use Prim.Native.Nat.{ℕ}
 use lib.Count.{leadingZeros}
 use lib.Dec.{eqb}
-use lib.Ieee.{binary32, add, sub, mul, div, neg, lt, le, eq, ofBits, toBits}
+use lib.Ieee.{binary32, add, sub, mul, div, neg, lt, le, ofBits, toBits}
 use Rattle.root.specs.Compute.{floorRoot, partsRoot, bitsRoot, rootOf}
 use Rattle.plane.specs.F32.{f32}
 use Rattle.plane.specs.Vector.{point, plusOf, overOf, turnedOf, dotOf, squareLengthOf, lengthOf, normalizeOf}

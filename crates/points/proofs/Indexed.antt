@@ -64,3 +64,12 @@ points-part e n p =
     let l : 2 * (e + n) - 2 * e ≡ 2 * n = omega arith in
     let z : e ≡ 0 + e = omega arith in
     rw (l, points-take n e (drop (2 * e) p)) (ap (λ (k : ℕ). take n (endpointsOf k (drop (2 * e) p))) z ∙ ap (take n) (points-drop e 0 p))
+
+-- the part that holds one point, and the first such
+pub points-one-at : (p : List Float) (k i : ℕ) → 2 * i + 2 ≤ length p → endpointsOf (k + i) (take (2 * i + 2 - 2 * i) (drop (2 * i) p)) ≡ endpointAt p k i ∷ []
+points-one-at p k i h =
+    let l : 2 * i + 2 - 2 * i ≡ 2 * 1 = omega arith in
+    rw (l, points-take 1 (k + i) (drop (2 * i) p), points-drop i k p, points-at p k i h)
+
+pub points-one : (p : List Float) (k : ℕ) → 2 ≤ length p → endpointsOf k (take 2 p) ≡ endpointAt p k 0 ∷ []
+points-one p k h = rw (points-take 1 k p, points-first p k h)

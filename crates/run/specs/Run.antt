@@ -1,7 +1,7 @@
 -- What a run draws. Assumes nothing.
 use Prim.Native.Nat.{ℕ, _+_, _*_, _≤_, _<_}
 use mathlib.Core.Path.{_≡_}
-use mathlib.Core.Bool.{Bool, _&&_, _||_, cond}
+use mathlib.Core.Bool.{Bool, true, _&&_, _||_, cond}
 use mathlib.Core.List.{List, [], _∷_}
 use lib.Dec.{ltb}
 use lib.Ieee.{Float}
@@ -55,15 +55,23 @@ shapeTriangles closed k (emptyCap p) = record { a = k; b = k + 1; c = k + 2 } �
 shapeTriangles closed k (along js) = trianglesOf closed k js
 
 -- v and t have room for a shape whose vertices are numbered from k
-pub record Place (closed : Bool) (k : ℕ) (s : Shape) (v : List Float) (t : List ℕ) : Type 0 where
-  pub numbers : k + shapeCount s < 65536
+pub record Room (closed : Bool) (k : ℕ) (s : Shape) (v : List Float) (t : List ℕ) : Type 0 where
   pub vertices : 5 * shapeCount s ≤ length v
   pub triangles : 3 * length (shapeTriangles closed k s) ≤ length t
-  pub faces : length (shapeTriangles closed k s) < 65536
 
--- it is drawn at the start of v and t, with n vertices and m triangles
-pub record Draws (o : Stroke) (closed : Bool) (k : ℕ) (s : Shape) (v v' : List Float) (t t' : List ℕ) (n m : ℕ) : Type 0 where
+-- it is drawn at the start of v and t
+pub record Drawing (o : Stroke) (closed : Bool) (k : ℕ) (s : Shape) (v v' : List Float) (t t' : List ℕ) : Type 0 where
   pub vertices : v' ≡ over (shapeVertices o s) v
   pub triangles : t' ≡ over (flatT (shapeTriangles closed k s)) t
+
+-- what a pass over it needs: a u16 holds its numbers, and where the pass writes there is room
+pub record Place (write closed : Bool) (k : ℕ) (s : Shape) (v : List Float) (t : List ℕ) : Type 0 where
+  pub numbers : k + shapeCount s < 65536
+  pub faces : length (shapeTriangles closed k s) < 65536
+  pub room : write ≡ true → Room closed k s v t
+
+-- what the pass does: it has counted n vertices and m triangles and, where it writes, written them
+pub record Draws (write : Bool) (o : Stroke) (closed : Bool) (k : ℕ) (s : Shape) (v v' : List Float) (t t' : List ℕ) (n m : ℕ) : Type 0 where
   pub count : n ≡ shapeCount s
   pub faces : m ≡ length (shapeTriangles closed k s)
+  pub drawing : write ≡ true → Drawing o closed k s v v' t t'

@@ -7,6 +7,7 @@ use path::options::Stroke;
 use points::endpoint_at;
 use points::first_far;
 use points::kept_end;
+use strip::Strip;
 use strip::write_close;
 use vertices::cap::tessellate_empty_square_cap;
 ghost use mathlib.Core.Bool.{true, false};
@@ -18,8 +19,8 @@ ghost use Rattle.course.specs.Joint.{jointsOf};
 ghost use Rattle.course.specs.Kept.{keptPoints};
 ghost use Rattle.points.specs.Kept.{runFrom};
 ghost use Rattle.points.specs.Points.{endpointsOf};
-ghost use Rattle.run.specs.Run.{along, drawsCap, shapeOfKept, shapeOf, Place, Draws};
-ghost use Rattle.run.specs.Strips.{Within};
+ghost use Rattle.run.specs.Run.{emptyCap, along, drawsCap, shapeOfKept, shapeOf, Drawing, Place, Draws};
+ghost use Rattle.run.specs.Strips.{Within, Rounds, roundedOf};
 
 // How much was drawn.
 pub struct Drawn {
@@ -35,12 +36,13 @@ fn draw_open(
     k: u32,
     i: usize,
     base: usize,
+    write: bool,
 ) -> Drawn
     requires { ⌜ Within (now p) k i ⌝ }
-    requires { ⌜ Place false base (along (jointsOf false o (runFrom (now p) k i))) (now v) (now t) ⌝ }
-    ensures { λ r. ⌜ Draws o false base (along (jointsOf false o (runFrom (now (p .entry)) k i))) (now (v .entry)) (now (v .exit)) (now (t .entry)) (now (t .exit)) (r .vertices) (r .triangles) ⌝ }
+    requires { ⌜ Place write false base (along (jointsOf false o (runFrom (now p) k i))) (now v) (now t) ⌝ }
+    ensures { λ r. ⌜ Draws write o false base (along (jointsOf false o (runFrom (now (p .entry)) k i))) (now (v .entry)) (now (v .exit)) (now (t .entry)) (now (t .exit)) (r .vertices) (r .triangles) ⌝ }
 {
-    let s = write_open(v, t, o, p, k, i, base);
+    let s = write_open(v, t, o, p, k, i, base, write);
     Drawn {
         vertices: s.vertices,
         triangles: s.triangles,
@@ -48,6 +50,17 @@ fn draw_open(
 }
 
 // A closed run goes round to its first section.
+fn close_round(t: &mut [u16], s: Strip, write: bool)
+    requires { ⌜ (write ≡ true → Rounds s (now t)) ⌝ }
+    ensures { λ _. ⌜ (write ≡ true → now (t .exit) ≡ roundedOf s (now (t .entry))) ⌝ }
+{
+    if write {
+        let at = 3 * s.triangles;
+        write_close(&mut t[at..], s);
+    }
+}
+
+// A closed run has as many triangles as vertices.
 fn draw_closed(
     v: &mut [f32],
     t: &mut [u16],
@@ -56,19 +69,17 @@ fn draw_closed(
     k: u32,
     i: usize,
     base: usize,
+    write: bool,
 ) -> Drawn
     requires { ⌜ Within (now p) k i ⌝ }
-    requires { ⌜ Place true base (along (jointsOf true o (runFrom (now p) k i))) (now v) (now t) ⌝ }
-    ensures { λ r. ⌜ Draws o true base (along (jointsOf true o (runFrom (now (p .entry)) k i))) (now (v .entry)) (now (v .exit)) (now (t .entry)) (now (t .exit)) (r .vertices) (r .triangles) ⌝ }
+    requires { ⌜ Place write true base (along (jointsOf true o (runFrom (now p) k i))) (now v) (now t) ⌝ }
+    ensures { λ r. ⌜ Draws write o true base (along (jointsOf true o (runFrom (now (p .entry)) k i))) (now (v .entry)) (now (v .exit)) (now (t .entry)) (now (t .exit)) (r .vertices) (r .triangles) ⌝ }
 {
-    let s = write_round(v, t, o, p, k, i, base);
-    let n = s.vertices;
-    let m = s.triangles;
-    let at = 3 * m;
-    let c = write_close(&mut t[at..], s);
+    let s = write_round(v, t, o, p, k, i, base, write);
+    close_round(t, s, write);
     Drawn {
-        vertices: n,
-        triangles: m + c,
+        vertices: s.vertices,
+        triangles: s.vertices,
     }
 }
 
@@ -82,6 +93,16 @@ pub fn draws_cap(o: Stroke, closed: bool, lines: bool) -> bool
     o.square && lines
 }
 
+// The empty cap at a point, where the pass writes.
+fn lay_empty_cap(v: &mut [f32], t: &mut [u16], o: Stroke, p: Endpoint, base: usize, write: bool)
+    requires { ⌜ Place write false base (emptyCap p) (now v) (now t) ⌝ }
+    ensures { λ _. ⌜ (write ≡ true → Drawing o false base (emptyCap p) (now (v .entry)) (now (v .exit)) (now (t .entry)) (now (t .exit))) ⌝ }
+{
+    if write {
+        tessellate_empty_square_cap(v, t, VertexId(base as u32), p.position, o.half_width, 0.0);
+    }
+}
+
 // A run of one kept point.
 fn draw_alone(
     v: &mut [f32],
@@ -91,12 +112,13 @@ fn draw_alone(
     closed: bool,
     lines: bool,
     base: usize,
+    write: bool,
 ) -> Drawn
-    requires { ⌜ Place closed base (shapeOfKept o closed lines (p ∷ [])) (now v) (now t) ⌝ }
-    ensures { λ r. ⌜ Draws o closed base (shapeOfKept o closed lines (p ∷ [])) (now (v .entry)) (now (v .exit)) (now (t .entry)) (now (t .exit)) (r .vertices) (r .triangles) ⌝ }
+    requires { ⌜ Place write closed base (shapeOfKept o closed lines (p ∷ [])) (now v) (now t) ⌝ }
+    ensures { λ r. ⌜ Draws write o closed base (shapeOfKept o closed lines (p ∷ [])) (now (v .entry)) (now (v .exit)) (now (t .entry)) (now (t .exit)) (r .vertices) (r .triangles) ⌝ }
 {
     if draws_cap(o, closed, lines) {
-        tessellate_empty_square_cap(v, t, VertexId(base as u32), p.position, o.half_width, 0.0);
+        lay_empty_cap(v, t, o, p, base, write);
         return Drawn {
             vertices: 4,
             triangles: 2,
@@ -118,19 +140,20 @@ fn draw_kept(
     closed: bool,
     lines: bool,
     base: usize,
+    write: bool,
 ) -> Drawn
     requires { ⌜ (2 ≤ length (now p)) × (length (now p) ≤ 8192) × (k ≤ 4096) ⌝ }
-    requires { ⌜ Place closed base (shapeOfKept o closed lines (keptPoints false (endpointsOf k (now p)))) (now v) (now t) ⌝ }
-    ensures { λ r. ⌜ Draws o closed base (shapeOfKept o closed lines (keptPoints false (endpointsOf k (now (p .entry))))) (now (v .entry)) (now (v .exit)) (now (t .entry)) (now (t .exit)) (r .vertices) (r .triangles) ⌝ }
+    requires { ⌜ Place write closed base (shapeOfKept o closed lines (keptPoints false (endpointsOf k (now p)))) (now v) (now t) ⌝ }
+    ensures { λ r. ⌜ Draws write o closed base (shapeOfKept o closed lines (keptPoints false (endpointsOf k (now (p .entry))))) (now (v .entry)) (now (v .exit)) (now (t .entry)) (now (t .exit)) (r .vertices) (r .triangles) ⌝ }
 {
     let i = first_far(p, k);
     if p.len() / 2 <= i {
-        return draw_alone(v, t, o, endpoint_at(p, k, 0), closed, lines, base);
+        return draw_alone(v, t, o, endpoint_at(p, k, 0), closed, lines, base, write);
     }
     if closed {
-        return draw_closed(v, t, o, p, k, i, base);
+        return draw_closed(v, t, o, p, k, i, base, write);
     }
-    draw_open(v, t, o, p, k, i, base)
+    draw_open(v, t, o, p, k, i, base, write)
 }
 
 // A run whose coordinates are p and whose first endpoint has the number k; its vertices are numbered
@@ -143,10 +166,11 @@ pub fn draw_run(
     k: u32,
     closed: bool,
     base: usize,
+    write: bool,
 ) -> Drawn
     requires { ⌜ (length (now p) ≤ 8192) × (k ≤ 4096) ⌝ }
-    requires { ⌜ Place closed base (shapeOf o closed (endpointsOf k (now p))) (now v) (now t) ⌝ }
-    ensures { λ r. ⌜ Draws o closed base (shapeOf o closed (endpointsOf k (now (p .entry)))) (now (v .entry)) (now (v .exit)) (now (t .entry)) (now (t .exit)) (r .vertices) (r .triangles) ⌝ }
+    requires { ⌜ Place write closed base (shapeOf o closed (endpointsOf k (now p))) (now v) (now t) ⌝ }
+    ensures { λ r. ⌜ Draws write o closed base (shapeOf o closed (endpointsOf k (now (p .entry)))) (now (v .entry)) (now (v .exit)) (now (t .entry)) (now (t .exit)) (r .vertices) (r .triangles) ⌝ }
 {
     if p.len() < 2 {
         return Drawn {
@@ -157,7 +181,7 @@ pub fn draw_run(
     let lines = 1 < p.len() / 2;
     if closed {
         let to = 2 * kept_end(p, k);
-        return draw_kept(v, t, o, &p[..to], k, true, lines, base);
+        return draw_kept(v, t, o, &p[..to], k, true, lines, base, write);
     }
-    draw_kept(v, t, o, p, k, false, lines, base)
+    draw_kept(v, t, o, p, k, false, lines, base, write)
 }

@@ -3,43 +3,55 @@
 use course::joint::end_cap;
 use course::joint::start_cap;
 use course::leg::Leg;
-use endpoint::Endpoint;
+use endpoint::EndpointData;
 use path::options::Stroke;
 use points::first_leg;
 use strip::Strip;
-use strip::put_joint;
+use strip::joint::negative_count;
+use strip::joint::positive_count;
+use strip::lay_joint;
 use strip::start;
+use strip::step;
 use walk::Walk;
-use walk::advance;
 use walk::visit_all;
 ghost use mathlib.Core.Bool.{true, false};
 ghost use mathlib.Core.List.{[], _∷_};
 ghost use Rattle.course.specs.Joint.{startCapOf, endCapOf, jointsOf};
 ghost use Rattle.points.specs.Kept.{runFrom};
+ghost use Rattle.points.specs.Points.{endpointAt};
 ghost use Rattle.strip.specs.Strip.{Has, Puts, startOf};
 ghost use Rattle.run.specs.Strips.{Within, Begins, roundOf};
 
+// A cap, written or only counted.
+fn put_cap(v: &mut [f32], t: &mut [u16], s: Strip, j: EndpointData, write: bool) -> Strip
+    requires { ⌜ Has write s (j ∷ []) (now v) (now t) ⌝ }
+    ensures { λ r. ⌜ Puts write (j ∷ []) s (now (v .entry)) (now (v .exit)) (now (t .entry)) (now (t .exit)) r ⌝ }
+{
+    lay_joint(v, t, s, j, write);
+    step(s, positive_count(j), negative_count(j))
+}
+
 // The start cap.
-fn begin(v: &mut [f32], t: &mut [u16], o: Stroke, leg: Leg, base: usize) -> Walk
-    requires { ⌜ Has (startOf base) (startCapOf o leg ∷ []) (now v) (now t) ⌝ }
-    ensures { λ r. ⌜ Begins o leg base (now (v .entry)) (now (v .exit)) (now (t .entry)) (now (t .exit)) r ⌝ }
+fn begin(v: &mut [f32], t: &mut [u16], o: Stroke, leg: Leg, base: usize, write: bool) -> Walk
+    requires { ⌜ Has write (startOf base) (startCapOf o leg ∷ []) (now v) (now t) ⌝ }
+    ensures { λ r. ⌜ Begins write o leg base (now (v .entry)) (now (v .exit)) (now (t .entry)) (now (t .exit)) r ⌝ }
 {
     let j = start_cap(o, leg);
     let s = start(base);
     Walk {
         leg: leg,
-        strip: put_joint(v, t, s, j),
+        strip: put_cap(v, t, s, j, write),
     }
 }
 
 // The end cap.
-fn finish(v: &mut [f32], t: &mut [u16], o: Stroke, w: Walk) -> Strip
-    requires { ⌜ Has (w .strip) (endCapOf o (w .leg) ∷ []) (now v) (now t) ⌝ }
-    ensures { λ r. ⌜ Puts (endCapOf o (w .leg) ∷ []) (w .strip) (now (v .entry)) (now (v .exit)) (now (t .entry)) (now (t .exit)) r ⌝ }
+fn finish(v: &mut [f32], t: &mut [u16], o: Stroke, w: Walk, write: bool) -> Strip
+    requires { ⌜ Has write (w .strip) (endCapOf o (w .leg) ∷ []) (now v) (now t) ⌝ }
+    ensures { λ r. ⌜ Puts write (endCapOf o (w .leg) ∷ []) (w .strip) (now (v .entry)) (now (v .exit)) (now (t .entry)) (now (t .exit)) r ⌝ }
 {
     let strip = w.strip;
     let j = end_cap(o, w.leg);
-    put_joint(v, t, strip, j)
+    put_cap(v, t, strip, j, write)
 }
 
 // An open run: the start cap, the joins, the end cap.
@@ -51,24 +63,46 @@ pub fn write_open(
     k: u32,
     i: usize,
     base: usize,
+    write: bool,
 ) -> Strip
     requires { ⌜ Within (now p) k i ⌝ }
-    requires { ⌜ Has (startOf base) (jointsOf false o (runFrom (now p) k i)) (now v) (now t) ⌝ }
-    ensures { λ r. ⌜ Puts (jointsOf false o (runFrom (now (p .entry)) k i)) (startOf base) (now (v .entry)) (now (v .exit)) (now (t .entry)) (now (t .exit)) r ⌝ }
+    requires { ⌜ Has write (startOf base) (jointsOf false o (runFrom (now p) k i)) (now v) (now t) ⌝ }
+    ensures { λ r. ⌜ Puts write (jointsOf false o (runFrom (now (p .entry)) k i)) (startOf base) (now (v .entry)) (now (v .exit)) (now (t .entry)) (now (t .exit)) r ⌝ }
 {
     let leg = first_leg(o.half_width, p, k, i);
-    let begun = begin(v, t, o, leg, base);
-    let w = visit_all(v, t, o, begun, p, k, i + 1);
-    finish(v, t, o, w)
+    let begun = begin(v, t, o, leg, base, write);
+    let w = visit_all(v, t, o, begun, p, k, i + 1, false, write);
+    finish(v, t, o, w, write)
 }
 
 // Round to p0 and on to p1: the joins n-1 and 0 of a closed run.
-fn go_round(v: &mut [f32], t: &mut [u16], o: Stroke, w: Walk, p0: Endpoint, p1: Endpoint) -> Strip
-    requires { ⌜ Has (w .strip) (roundOf o (w .leg) p0 p1) (now v) (now t) ⌝ }
-    ensures { λ r. ⌜ Puts (roundOf o (w .leg) p0 p1) (w .strip) (now (v .entry)) (now (v .exit)) (now (t .entry)) (now (t .exit)) r ⌝ }
+fn go_round(
+    v: &mut [f32],
+    t: &mut [u16],
+    o: Stroke,
+    w: Walk,
+    p: &[f32],
+    k: u32,
+    i: usize,
+    write: bool,
+) -> Strip
+    requires { ⌜ Within (now p) k i ⌝ }
+    requires { ⌜ Has write (w .strip) (roundOf o (w .leg) (endpointAt (now p) k 0) (endpointAt (now p) k i)) (now v) (now t) ⌝ }
+    ensures { λ r. ⌜ Puts write (roundOf o (w .leg) (endpointAt (now (p .entry)) k 0) (endpointAt (now (p .entry)) k i)) (w .strip) (now (v .entry)) (now (v .exit)) (now (t .entry)) (now (t .exit)) r ⌝ }
 {
-    let home = advance(v, t, o, w, p0);
-    let on = advance(v, t, o, home, p1);
+    let home = visit_all(v, t, o, w, &p[..2], k, 0, true, write);
+    let from = 2 * i;
+    let on = visit_all(
+        v,
+        t,
+        o,
+        home,
+        &p[from..from + 2],
+        k + i as u32,
+        0,
+        true,
+        write,
+    );
     on.strip
 }
 
@@ -81,16 +115,17 @@ pub fn write_round(
     k: u32,
     i: usize,
     base: usize,
+    write: bool,
 ) -> Strip
     requires { ⌜ Within (now p) k i ⌝ }
-    requires { ⌜ Has (startOf base) (jointsOf true o (runFrom (now p) k i)) (now v) (now t) ⌝ }
-    ensures { λ r. ⌜ Puts (jointsOf true o (runFrom (now (p .entry)) k i)) (startOf base) (now (v .entry)) (now (v .exit)) (now (t .entry)) (now (t .exit)) r ⌝ }
+    requires { ⌜ Has write (startOf base) (jointsOf true o (runFrom (now p) k i)) (now v) (now t) ⌝ }
+    ensures { λ r. ⌜ Puts write (jointsOf true o (runFrom (now (p .entry)) k i)) (startOf base) (now (v .entry)) (now (v .exit)) (now (t .entry)) (now (t .exit)) r ⌝ }
 {
     let leg = first_leg(o.half_width, p, k, i);
     let begun = Walk {
         leg: leg,
         strip: start(base),
     };
-    let w = visit_all(v, t, o, begun, p, k, i + 1);
-    go_round(v, t, o, w, leg.from, leg.to)
+    let w = visit_all(v, t, o, begun, p, k, i + 1, false, write);
+    go_round(v, t, o, w, p, k, i, write)
 }

@@ -1,7 +1,7 @@
 -- Laws of the state's steps: what they count, that a u16 holds their numbers, and joints one behind the other. Assumes nothing.
 use Prim.Native.Nat.{ℕ, _+_, _<_}
-use mathlib.Core.Path.{_≡_, refl, _∙_}
-use mathlib.Core.Bool.{Bool, true, false, cond}
+use mathlib.Core.Path.{_≡_, refl, sym, _∙_}
+use mathlib.Core.Bool.{Bool, true, false, cond, true≢false}
 use mathlib.Core.List.{List, [], _∷_, _++_, append-assoc, append-nil}
 use native.Mathlib.Omega.{arith}
 use lib.ListN.{length, length-append}
@@ -10,8 +10,8 @@ use Rattle.strip.specs.declared.Strip.{Strip}
 use Rattle.strip.specs.declared.section.Section.{Section}
 use Rattle.strip.specs.Joint.{jointCount, vertexCount}
 use Rattle.strip.specs.Section.{beforeOf, afterOf, Narrow}
-use Rattle.strip.specs.Strip.{startOf, nextOf, stepTriangles, stepOf, stepsOf, trianglesFrom, Sound}
-use Rattle.strip.proofs.Joints.{count-more}
+use Rattle.strip.specs.Strip.{startOf, nextOf, stepTriangles, stepOf, stepsOf, trianglesFrom, Behind, Sound}
+use Rattle.strip.proofs.Joints.{side-few, count-more}
 
 pub triangles-one : (s : Strip) (j : EndpointData) → trianglesFrom s (j ∷ []) ≡ stepTriangles s j
 unfolding trianglesFrom
@@ -61,14 +61,26 @@ narrow-before k j h = record { n = omega arith; p = omega arith }
 pub narrow-after : (k : ℕ) (j : EndpointData) → k + jointCount j < 65536 → Narrow (afterOf k j)
 narrow-after k j h = record { n = omega arith; p = omega arith }
 
+behind-step : (s : Strip) (j : EndpointData) → Behind (stepOf s j)
+unfolding stepOf
+behind-step s j =
+    let p = side-few (j .positive) in
+    let n = side-few (j .negative) in
+    record { negative = omega arith; positive = omega arith; apart = λ z. omega arith }
+
 pub sound-start : (k : ℕ) → Sound (startOf k)
-sound-start k = record { first = record { n = omega arith; p = omega arith }; last = record { n = omega arith; p = omega arith } }
+sound-start k = record {
+  first = record { n = omega arith; p = omega arith };
+  last = record { n = omega arith; p = omega arith };
+  behind = λ b. absurd (true≢false (sym b));
+}
 
 sound-step : (s : Strip) (j : EndpointData) → Sound s → nextOf s + jointCount j < 65536 → Sound (stepOf s j)
 unfolding stepOf
 sound-step s j o h = record {
   first = narrow-choice (s .begun) (s .first) (beforeOf (nextOf s) j) (o .first) (narrow-before (nextOf s) j h);
   last = narrow-after (nextOf s) j h;
+  behind = λ b. behind-step s j;
 }
 
 pub sound-steps : (s : Strip) (xs : List EndpointData) → Sound s → nextOf s + vertexCount xs < 65536 → Sound (stepsOf s xs)

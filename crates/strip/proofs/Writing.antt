@@ -1,8 +1,8 @@
 -- What this crate's writers do: two lists of triangles one behind the other, a joint at the start of its parts, and one behind what the state counts.
 -- Assumes nothing.
-use Prim.Native.Nat.{ℕ, _+_, _-_, _*_, _^_, _<_, _≤_}
+use Prim.Native.Nat.{ℕ, _+_, _-_, _*_, _<_, _≤_}
 use mathlib.Core.Path.{_≡_, _∙_}
-use mathlib.Core.Bool.{true, cond}
+use mathlib.Core.Bool.{cond}
 use mathlib.Core.List.{List, [], _∷_, _++_}
 use native.Mathlib.Omega.{arith}
 use borrow.Rule.Slice.PartMut.{midOf, putMid}
@@ -16,7 +16,7 @@ use Rattle.strip.specs.declared.section.Section.{Section}
 use Rattle.strip.specs.Joint.{jointCount, jointVerticesOf}
 use Rattle.strip.specs.Section.{beforeOf, afterOf, Narrow}
 use Rattle.strip.specs.Triangle.{Tri, flatT, past}
-use Rattle.strip.specs.Strip.{nextOf, stepTriangles, stepOf, stepsOf, trianglesFrom, Room, Emits, Has, Puts}
+use Rattle.strip.specs.Strip.{nextOf, stepTriangles, trianglesFrom, Room, Emits, Space, Lays}
 use Rattle.strip.proofs.Joints.{vertices-one, count-one}
 use Rattle.strip.proofs.Triangles.{flatT-append, length-flatT}
 use Rattle.strip.proofs.Steps.{triangles-one, narrow-choice, narrow-before, narrow-after}
@@ -39,7 +39,6 @@ pub record Sections (s : Strip) (j : EndpointData) (l b a : Section) : Type 0 wh
 -- what the joint's writer has
 pub record Fit (s : Strip) (t : List ℕ) (l b a : Section) : Type 0 where
   pub triangles : 3 * length (past l b a) ≤ length t
-  pub sum : s .triangles + length (past l b a) < 2 ^ 64
   pub last : Narrow l
   pub before : Narrow b
   pub after : Narrow a
@@ -48,12 +47,6 @@ module _ {s : Strip} {j : EndpointData} {l b a : Section} (h : Sections s j l b 
   step-is : trianglesFrom s (j ∷ []) ≡ past l b a
   unfolding stepTriangles
   step-is = triangles-one s j ∙ rw (h .last, h .after, h .before)
-
-  -- the state that has counted the joint's vertices and triangles
-  state-is : (f : Section) (n m : ℕ) → f ≡ cond (s .begun) (s .first) b → n ≡ jointCount j → m ≡ length (past l b a)
-      → record { base = s .base; vertices = s .vertices + n; triangles = s .triangles + m; begun = true; first = f; last = a } ≡ stepsOf s (j ∷ [])
-  unfolding stepsOf stepOf
-  state-is f n m ef en em = rw (ef, en, em, ← step-is, triangles-one s j, h .after, h .before)
 
 module _ {s : Strip} {j : EndpointData} {v : List Float} {t : List ℕ} (room : Room s (j ∷ []) v t) where
   pub numbers-fit : nextOf s + jointCount j < 65536
@@ -68,26 +61,22 @@ module _ {s : Strip} {j : EndpointData} {v : List Float} {t : List ℕ} (room : 
         let before : Narrow b = rw (h .before) (narrow-before (nextOf s) j numbers-fit) in
         record {
           triangles = rw (step-is h) at (room .triangles);
-          sum = rw (step-is h) at (room .sum);
           last = rw (h .last) (narrow-choice (s .begun) (s .last) b (room .sound .last) before);
           before = before;
           after = rw (h .after) (narrow-after (nextOf s) j numbers-fit);
         }
 
-    pub emits : (f : Section) (n m : ℕ) (v' : List Float) (t' : List ℕ)
-        → f ≡ cond (s .begun) (s .first) b → n ≡ jointCount j → v' ≡ over (jointVerticesOf j) v → m ≡ length (past l b a) → t' ≡ over (flatT (past l b a)) t
-        → Emits (j ∷ []) s v v' t t' (record { base = s .base; vertices = s .vertices + n; triangles = s .triangles + m; begun = true; first = f; last = a })
-    emits f n m v' t' ef en ev em et = record { state = state-is h f n m ef en em; vertices = rw (vertices-one j) ev; triangles = rw (step-is h) et }
+    pub emits : (v' : List Float) (t' : List ℕ) → v' ≡ over (jointVerticesOf j) v → t' ≡ over (flatT (past l b a)) t → Emits (j ∷ []) s v v' t t'
+    emits v' t' ev et = record { vertices = rw (vertices-one j) ev; triangles = rw (step-is h) et }
 
 -- the same where the writer got the parts behind what the state counts
-pub puts-behind : (js : List EndpointData) (s : Strip) (v : List Float) (t : List ℕ) (s' : Strip) (v' : List Float) (t' : List ℕ) → Has s js v t
-    → Emits js s (midOf (5 * s .vertices) (length v - 5 * s .vertices) v) v' (midOf (3 * s .triangles) (length t - 3 * s .triangles) t) t' s'
-    → Puts js s v (putMid (5 * s .vertices) (length v - 5 * s .vertices) v v') t (putMid (3 * s .triangles) (length t - 3 * s .triangles) t t') s'
-puts-behind js s v t s' v' t' h e =
+pub lays-behind : (js : List EndpointData) (s : Strip) (v : List Float) (t : List ℕ) (v' : List Float) (t' : List ℕ) → Space s js v t
+    → Emits js s (midOf (5 * s .vertices) (length v - 5 * s .vertices) v) v' (midOf (3 * s .triangles) (length t - 3 * s .triangles) t) t'
+    → Lays js s v (putMid (5 * s .vertices) (length v - 5 * s .vertices) v v') t (putMid (3 * s .triangles) (length t - 3 * s .triangles) t t')
+lays-behind js s v t v' t' h e =
     let hv : 5 * s .vertices ≤ length v = omega (arith, h .vertices) in
     let ht : 3 * s .triangles ≤ length t = omega (arith, h .triangles) in
     record {
-      state = e .state;
       vertices = rw (put-is v v' (5 * s .vertices) hv, e .vertices, part-is v (5 * s .vertices) hv);
       triangles = rw (put-is t t' (3 * s .triangles) ht, e .triangles, part-is t (3 * s .triangles) ht);
     }

@@ -10,7 +10,7 @@ ghost use Rattle.endpoint.specs.Endpoint.{sideCountOf};
 ghost use Rattle.lists.specs.Over.{over};
 ghost use Rattle.strip.specs.Joint.{jointCount, jointVerticesOf};
 
-// How many vertices a joint has on each side, and in all.
+// How many vertices a joint has on each side.
 pub fn positive_count(j: EndpointData) -> usize
     ensures { λ r. ⌜ r ≡ sideCountOf (j .positive) ⌝ }
 {
@@ -23,12 +23,6 @@ pub fn negative_count(j: EndpointData) -> usize
 {
     let n = j.negative;
     side_count(n)
-}
-
-pub fn joint_count(j: EndpointData) -> usize
-    ensures { λ r. ⌜ r ≡ jointCount j ⌝ }
-{
-    positive_count(j) + negative_count(j)
 }
 
 // Both sides' vertices.

@@ -1,6 +1,5 @@
 // A run's strip: its joints, one by one, become vertices, sections and triangles (rules 8 and 9 of
 // document 01). `write` is at the start of the parts lent, `put` behind what the state counts.
-use crate::joint::joint_count;
 use crate::joint::write_vertices;
 use crate::section::Section;
 use crate::section::after;
@@ -10,13 +9,14 @@ use crate::section::section_of;
 use crate::triangle::write_between;
 use crate::triangle::write_past;
 use endpoint::EndpointData;
+ghost use mathlib.Core.Bool.{true, cond};
 ghost use mathlib.Core.Path.{_≡_};
 ghost use mathlib.Core.List.{[], _∷_};
-ghost use Prim.Native.Nat.{_*_, _≤_};
+ghost use Prim.Native.Nat.{_+_, _-_, _*_, _≤_, _<_};
 ghost use lib.ListN.{length};
 ghost use Rattle.lists.specs.Over.{over};
 ghost use Rattle.strip.specs.Triangle.{flatT, between};
-ghost use Rattle.strip.specs.Strip.{Sound, Room, Emits, Has, Puts, startOf};
+ghost use Rattle.strip.specs.Strip.{Sound, Room, Emits, Space, Lays, Steps, startOf, steppedOf};
 
 pub mod joint;
 pub mod section;
@@ -49,35 +49,65 @@ pub fn start(base: usize) -> Strip
 }
 
 // One joint more: from the last section to the one before it, and on to the one after it.
-fn write_joint(v: &mut [f32], t: &mut [u16], s: Strip, j: EndpointData) -> Strip
+fn write_joint(v: &mut [f32], t: &mut [u16], s: Strip, j: EndpointData)
     requires { ⌜ Room s (j ∷ []) (now v) (now t) ⌝ }
-    ensures { λ r. ⌜ Emits (j ∷ []) s (now (v .entry)) (now (v .exit)) (now (t .entry)) (now (t .exit)) r ⌝ }
+    ensures { λ _. ⌜ Emits (j ∷ []) s (now (v .entry)) (now (v .exit)) (now (t .entry)) (now (t .exit)) ⌝ }
 {
     let k = s.base + s.vertices;
     let b = before(k, j);
     let a = after(k, j);
     let last = choose(s.begun, s.last, b);
-    let first = choose(s.begun, s.first, b);
     write_vertices(v, j);
-    let n = write_past(t, last, b, a);
-    Strip {
-        base: s.base,
-        vertices: s.vertices + joint_count(j),
-        triangles: s.triangles + n,
-        begun: true,
-        first,
-        last: a,
-    }
+    write_past(t, last, b, a);
 }
 
 // The same, behind what the state counts.
-pub fn put_joint(v: &mut [f32], t: &mut [u16], s: Strip, j: EndpointData) -> Strip
-    requires { ⌜ Has s (j ∷ []) (now v) (now t) ⌝ }
-    ensures { λ r. ⌜ Puts (j ∷ []) s (now (v .entry)) (now (v .exit)) (now (t .entry)) (now (t .exit)) r ⌝ }
+pub fn put_joint(v: &mut [f32], t: &mut [u16], s: Strip, j: EndpointData)
+    requires { ⌜ Space s (j ∷ []) (now v) (now t) ⌝ }
+    ensures { λ _. ⌜ Lays (j ∷ []) s (now (v .entry)) (now (v .exit)) (now (t .entry)) (now (t .exit)) ⌝ }
 {
     let at = 5 * s.vertices;
     let to = 3 * s.triangles;
-    write_joint(&mut v[at..], &mut t[to..], s, j)
+    write_joint(&mut v[at..], &mut t[to..], s, j);
+}
+
+// The same where a pass writes.
+pub fn lay_joint(v: &mut [f32], t: &mut [u16], s: Strip, j: EndpointData, write: bool)
+    requires { ⌜ (write ≡ true → Space s (j ∷ []) (now v) (now t)) ⌝ }
+    ensures { λ _. ⌜ (write ≡ true → Lays (j ∷ []) s (now (v .entry)) (now (v .exit)) (now (t .entry)) (now (t .exit))) ⌝ }
+{
+    if write {
+        put_joint(v, t, s, j);
+    }
+}
+
+// Each vertex brings a triangle, but for the first two of a run.
+fn more_triangles(begun: bool, triangles: usize, vertices: usize) -> usize
+    requires { ⌜ (triangles < 65536) × (2 ≤ vertices) × (vertices ≤ 4) ⌝ }
+    ensures { λ r. ⌜ r ≡ cond begun (triangles + vertices) (triangles + vertices - 2) ⌝ }
+{
+    if begun {
+        return triangles + vertices;
+    }
+    triangles + vertices - 2
+}
+
+// The state with one joint more, whose sides have so many vertices.
+pub fn step(s: Strip, positive: usize, negative: usize) -> Strip
+    requires { ⌜ Steps s positive negative ⌝ }
+    ensures { λ r. ⌜ r ≡ steppedOf s positive negative ⌝ }
+{
+    let k = s.base + s.vertices;
+    let n = positive + negative;
+    let before = section_of(k + positive, k);
+    Strip {
+        base: s.base,
+        vertices: s.vertices + n,
+        triangles: more_triangles(s.begun, s.triangles, n),
+        begun: true,
+        first: choose(s.begun, s.first, before),
+        last: section_of(k + n - 1, k + positive - 1),
+    }
 }
 
 // A closed run goes round to its first section. The result is the number of triangles.

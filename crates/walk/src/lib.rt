@@ -1,54 +1,89 @@
-// The writing pass over a run's points: each joint is written as soon as the leg behind it is known, so no point is stored.
+// A pass over a run's points: each joint is written, or only counted, as soon as the leg behind it is known, so no point is stored.
+use course::joint::corners_at;
 use course::joint::joint_of;
 use course::kept::is_near;
 use course::leg::Leg;
 use course::leg::next_leg;
 use endpoint::Endpoint;
+use join::record::Corners;
+use join::record::corner_count;
 use path::options::Stroke;
 use points::endpoint_at;
 use strip::Strip;
 use strip::put_joint;
+use strip::step;
+ghost use mathlib.Core.Bool.{true};
+ghost use mathlib.Core.List.{[], _∷_};
 ghost use mathlib.Core.Path.{_≡_};
 ghost use Prim.Native.Nat.{_≤_};
 ghost use lib.ListN.{length, drop};
-ghost use Rattle.course.specs.Walk.{advanced, visited, passed};
+ghost use Rattle.course.specs.Joint.{cornersAt, jointOf};
+ghost use Rattle.course.specs.Walk.{advanced, drops, visited, passed};
 ghost use Rattle.points.specs.Points.{endpointsOf};
-ghost use Rattle.strip.specs.Strip.{Has};
+ghost use Rattle.strip.specs.Strip.{Has, Space, Lays};
 ghost use Rattle.walk.specs.Walk.{Advances, Visits, Passes};
 
-// How far a run has come: the leg reached, and what is written.
+// How far a run has come: the leg reached, and what is written or counted.
 pub struct Walk {
     pub leg: Leg,
     pub strip: Strip,
 }
 
-// The next point, which is kept: the joint that the last leg ends in is written.
-pub fn advance(v: &mut [f32], t: &mut [u16], o: Stroke, w: Walk, p: Endpoint) -> Walk
-    requires { ⌜ Has (w .strip) (advanced o (w .leg) p) (now v) (now t) ⌝ }
-    ensures { λ r. ⌜ Advances o w p (now (v .entry)) (now (v .exit)) (now (t .entry)) (now (t .exit)) r ⌝ }
+// The joint that the last leg ends in, worked and written where the pass writes.
+fn lay(v: &mut [f32], t: &mut [u16], o: Stroke, w: Walk, next: Leg, c: Corners, write: bool)
+    requires { ⌜ c ≡ cornersAt o (w .leg) next ⌝ }
+    requires { ⌜ (write ≡ true → Space (w .strip) (jointOf o (w .leg) next ∷ []) (now v) (now t)) ⌝ }
+    ensures { λ _. ⌜ (write ≡ true → Lays (jointOf o (w .leg) next ∷ []) (w .strip) (now (v .entry)) (now (v .exit)) (now (t .entry)) (now (t .exit))) ⌝ }
+{
+    if write {
+        put_joint(v, t, w.strip, joint_of(o, w.leg, next, c));
+    }
+}
+
+// The next point, which is kept.
+fn advance(v: &mut [f32], t: &mut [u16], o: Stroke, w: Walk, p: Endpoint, write: bool) -> Walk
+    requires { ⌜ Has write (w .strip) (advanced o (w .leg) p) (now v) (now t) ⌝ }
+    ensures { λ r. ⌜ Advances write o w p (now (v .entry)) (now (v .exit)) (now (t .entry)) (now (t .exit)) r ⌝ }
 {
     let leg = w.leg;
     let strip = w.strip;
     let next = next_leg(o.half_width, leg, p);
-    let j = joint_of(o, leg, next);
-    let s = put_joint(v, t, strip, j);
+    let c = corners_at(o, leg, next);
+    lay(v, t, o, w, next, c, write);
     Walk {
         leg: next,
-        strip: s,
+        strip: step(strip, corner_count(c.positive), corner_count(c.negative)),
     }
 }
 
-// The next point, which may be dropped.
-fn visit(v: &mut [f32], t: &mut [u16], o: Stroke, w: Walk, p: Endpoint) -> Walk
-    requires { ⌜ Has (w .strip) (visited o (w .leg) p) (now v) (now t) ⌝ }
-    ensures { λ r. ⌜ Visits o w p (now (v .entry)) (now (v .exit)) (now (t .entry)) (now (t .exit)) r ⌝ }
+// Whether a point is dropped: it is near the last, and not sure to be kept.
+fn is_dropped(sure: bool, leg: Leg, p: Endpoint) -> bool
+    ensures { λ r. ⌜ r ≡ drops sure leg p ⌝ }
 {
-    let leg = w.leg;
+    if sure {
+        return false;
+    }
     let to = leg.to;
-    if is_near(to.position, p.position) {
+    is_near(to.position, p.position)
+}
+
+// The next point, which may be dropped.
+fn visit(
+    v: &mut [f32],
+    t: &mut [u16],
+    o: Stroke,
+    w: Walk,
+    p: Endpoint,
+    sure: bool,
+    write: bool,
+) -> Walk
+    requires { ⌜ Has write (w .strip) (visited sure o (w .leg) p) (now v) (now t) ⌝ }
+    ensures { λ r. ⌜ Visits sure write o w p (now (v .entry)) (now (v .exit)) (now (t .entry)) (now (t .exit)) r ⌝ }
+{
+    if is_dropped(sure, w.leg, p) {
         return w;
     }
-    advance(v, t, o, w, p)
+    advance(v, t, o, w, p, write)
 }
 
 // The points of p from one on; k is the number of the run's first endpoint.
@@ -60,17 +95,19 @@ pub fn visit_all(
     p: &[f32],
     k: u32,
     from: usize,
+    sure: bool,
+    write: bool,
 ) -> Walk
-    requires { ⌜ (length (now p) ≤ 8192) × (k ≤ 4096) ⌝ }
-    requires { ⌜ Has (w .strip) (passed o (w .leg) (drop from (endpointsOf k (now p)))) (now v) (now t) ⌝ }
-    ensures { λ r. ⌜ Passes o w (drop from (endpointsOf k (now (p .entry)))) (now (v .entry)) (now (v .exit)) (now (t .entry)) (now (t .exit)) r ⌝ }
+    requires { ⌜ (length (now p) ≤ 8192) × (k ≤ 8192) ⌝ }
+    requires { ⌜ Has write (w .strip) (passed sure o (w .leg) (drop from (endpointsOf k (now p)))) (now v) (now t) ⌝ }
+    ensures { λ r. ⌜ Passes sure write o w (drop from (endpointsOf k (now (p .entry)))) (now (v .entry)) (now (v .exit)) (now (t .entry)) (now (t .exit)) r ⌝ }
 {
     let mut w = w;
     let mut i = from;
     let end = p.len() / 2;
     while i < end {
         let c = endpoint_at(p, k, i);
-        w = visit(v, t, o, w, c);
+        w = visit(v, t, o, w, c, sure, write);
         i += 1;
     }
     w

@@ -1,24 +1,15 @@
 -- `mesh::mesh_accepted` meets its contract. Assumes nothing.
 use borrow.Author.Needs.{needs}
 use mathlib.Core.Path.{sym, _∙_}
-use Rattle.mesh.proofs.Rooms.{sound-paired, mesh-has, is-drawn, is-refused}
+use Rattle.mesh.proofs.Rooms.{sound-paired, plenty-has, plenty-drawn, mesh-has, is-drawn, is-refused}
 use Rattle.mesh.proofs.mesh_accepted.Statement.{statement}
 use Rattle.mesh.proofs.mesh_accepted.Tie as tie
 
-count-runs-requires : tie.Need-count-runs-requires
-count-runs-requires c κs = sound-paired _ _ (c .before .before .before .before .pre)
-
-judged-requires : tie.Need-judged-requires
-judged-requires c κs = search needs
-
-fits-requires : tie.Need-fits-requires
-fits-requires c κs = search needs
+is-plenty-requires : tie.Need-is-plenty-requires
+is-plenty-requires c κs = search needs
 
 draw-runs-requires : tie.Need-draw-runs-requires
-draw-runs-requires c κs =
-    let j = rw (c .before .before .before .before .before .count-runs .ensures) at (c .before .before .before .before .judged .ensures) in
-    let f = sym (c .before .before .before .fits2 .ensures) ∙ c .before .before .if1 .taken in
-    (sound-paired _ _ (c .before .before .before .before .before .before .before .before .before .before .pre), mesh-has _ _ _ (c .before .before .before .before .before .before .before .before .before .before .pre) _ _ (rw j at f))
+draw-runs-requires c κs = (sound-paired _ _ (c .before .before .before .before .before .before .before .before .pre .1), plenty-has _ _ _ (c .before .before .before .before .before .before .before .before .pre .1) (c .before .before .before .before .before .before .before .before .pre .0) _ _ (c .before .before .before .is-plenty .ensures (c .before .before .if1 .taken)))
 
 same-length : tie.Need-same-length
 same-length c = search needs
@@ -27,26 +18,54 @@ same-length-2 : tie.Need-same-length-2
 same-length-2 c = search needs
 
 returns : tie.Need-returns
-returns c =
-    let j = rw (c .before .before .before .before .before .before .before .before .before .before .count-runs .ensures) at (c .before .before .before .before .before .before .before .before .before .judged .ensures) in
-    let f = sym (c .before .before .before .before .before .before .before .before .fits2 .ensures) ∙ c .before .before .before .before .before .before .before .if1 .taken in
-    rw j (is-drawn (c .before .before .before .before .before .before .before .before .before .before .before .before .before .before .before .args .o) _ _ _ _ _ (rw j at f) (c .before .before .before .before .draw-runs .ensures .0) (c .before .before .before .before .draw-runs .ensures .1))
+returns c = plenty-drawn _ _ _ (c .before .before .before .before .before .before .before .before .before .before .before .before .before .pre .1) (c .before .before .before .before .before .before .before .before .before .before .before .before .before .pre .0) _ _ (c .before .before .before .before .before .before .before .before .is-plenty .ensures (c .before .before .before .before .before .before .before .if1 .taken)) _ _ _ (c .before .before .before .before .draw-runs .ensures)
+
+count-accepted-requires : tie.Need-count-accepted-requires
+count-accepted-requires c κs = c .before .before .before .before .before .before .before .before .pre .1
+
+judged-requires : tie.Need-judged-requires
+judged-requires c κs = search needs
+
+fits-requires : tie.Need-fits-requires
+fits-requires c κs = search needs
+
+draw-runs-requires-2 : tie.Need-draw-runs-requires-2
+draw-runs-requires-2 c κs = (sound-paired _ _ (c .before .before .before .before .before .before .before .before .before .before .before .before .before .before .before .before .before .before .pre .1), mesh-has _ _ _ (c .before .before .before .before .before .before .before .before .before .before .before .before .before .before .before .before .before .before .pre .1) (c .before .before .before .before .before .before .before .before .before .before .before .before .before .before .before .before .before .before .pre .0) _ _ _ _ _ (c .before .before .before .before .before .before .before .before .before .count-accepted .ensures) _ (c .before .before .before .before .judged .ensures) (sym (c .before .before .before .fits2 .ensures) ∙ c .before .before .if2 .taken))
+
+same-length-3 : tie.Need-same-length-3
+same-length-3 c = search needs
+
+same-length-4 : tie.Need-same-length-4
+same-length-4 c = search needs
 
 returns-2 : tie.Need-returns-2
-returns-2 c =
-    let j = rw (c .before .before .before .count-runs .ensures) at (c .before .before .judged .ensures) in
-    let f = sym (c .before .fits2 .ensures) ∙ c .if1 .left in
-    rw j (is-refused (c .before .before .before .before .before .before .before .before .args .o) _ _ _ (rw j at f))
+returns-2 c = is-drawn _ _ _ (c .before .before .before .before .before .before .before .before .before .before .before .before .before .before .before .before .before .before .before .before .before .before .before .pre .1) (c .before .before .before .before .before .before .before .before .before .before .before .before .before .before .before .before .before .before .before .before .before .before .before .pre .0) _ _ _ _ _ (c .before .before .before .before .before .before .before .before .before .before .before .before .before .before .count-accepted .ensures) _ (c .before .before .before .before .before .before .before .before .before .judged .ensures) (sym (c .before .before .before .before .before .before .before .before .fits2 .ensures) ∙ c .before .before .before .before .before .before .before .if2 .taken) _ _ _ (c .before .before .before .before .draw-runs2 .ensures)
+
+same-length-5 : tie.Need-same-length-5
+same-length-5 c = search needs
+
+same-length-6 : tie.Need-same-length-6
+same-length-6 c = search needs
+
+returns-3 : tie.Need-returns-3
+returns-3 c = is-refused _ _ _ (c .before .before .before .before .before .before .before .before .before .before .before .before .before .before .before .before .pre .1) (c .before .before .before .before .before .before .before .before .before .before .before .before .before .before .before .before .pre .0) _ _ _ _ _ (c .before .before .before .before .before .before .before .count-accepted .ensures) _ (c .before .before .judged .ensures) (sym (c .before .fits2 .ensures) ∙ c .if2 .left)
 
 pub mesh-accepted-spec : {M : Type 1} → statement M
 mesh-accepted-spec =
     tie.close
     (tie.spec
-    count-runs-requires
-    judged-requires
-    fits-requires
+    is-plenty-requires
     draw-runs-requires
     same-length
     same-length-2
     returns
-    returns-2)
+    count-accepted-requires
+    judged-requires
+    fits-requires
+    draw-runs-requires-2
+    same-length-3
+    same-length-4
+    returns-2
+    same-length-5
+    same-length-6
+    returns-3)

@@ -13,7 +13,7 @@ enum-told : tie.Need-enum-told
 enum-told c = search needs
 
 mesh-accepted-requires : tie.Need-mesh-accepted-requires
-mesh-accepted-requires c κs = sound _ _ (sym (c .before .before .before .before .check-path .ensures) ∙ c .before .before .enum-told .given .1)
+mesh-accepted-requires c κs = (c .before .before .before .before .before .before .before .before .before .pre, sound _ _ (sym (c .before .before .before .before .check-path .ensures) ∙ c .before .before .enum-told .given .1))
 
 enum-told-2 : tie.Need-enum-told-2
 enum-told-2 c = search needs

@@ -1,5 +1,6 @@
 -- `mesh::tessellate` meets its contract. Assumes nothing.
 use borrow.Author.Needs.{needs}
+use mathlib.Core.Path.{sym, _∙_}
 use Rattle.mesh.specs.Mesh.{outcomeOf}
 use Rattle.mesh.proofs.tessellate.Statement.{statement}
 use Rattle.mesh.proofs.tessellate.Tie as tie
@@ -11,7 +12,7 @@ enum-known-o : tie.Need-enum-known-o
 enum-known-o c = search needs
 
 mesh-stroked-requires : tie.Need-mesh-stroked-requires
-mesh-stroked-requires c κs = search needs
+mesh-stroked-requires c κs = record { options = c .before .before .before .before .before .before .before .before .before .before .args .options; is = sym (c .before .before .before .before .before .stroke-of .ensures) ∙ c .before .before .before .o .given .1 }
 
 enum-told : tie.Need-enum-told
 enum-told c = search needs

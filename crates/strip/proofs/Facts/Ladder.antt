@@ -96,7 +96,7 @@ length-inner k j = go (j .positive) (j .negative)
     go (Pair a b c d) (Single e f) = refl
     go (Pair a b c d) (Pair e f g h) = refl
 
-inner-is : (k : ℕ) (j : EndpointData) → between (beforeOf k j) (afterOf k j) ≡ ladder (beforeN k j) k (inner k j)
+pub inner-is : (k : ℕ) (j : EndpointData) → between (beforeOf k j) (afterOf k j) ≡ ladder (beforeN k j) k (inner k j)
 unfolding inner inP inN
 inner-is k j = go (j .positive) (j .negative)
   where

@@ -1,4 +1,4 @@
--- `walk::visit_all` meets its contract. Assumes nothing.
+use borrow.Author.Needs.{needs}
 use Prim.Native.Nat.{_+_, _-_, _*_, _≤_}
 use mathlib.Core.Path.{_≡_, refl, sym, _∙_}
 use mathlib.Core.List.{[]}
@@ -13,62 +13,54 @@ use Rattle.walk.specs.Walk.{Visits}
 use Rattle.walk.proofs.Turns.{visit-has, visit-turn}
 use Rattle.walk.proofs.visit_all.Statement.{statement}
 use Rattle.walk.proofs.visit_all.Tie as tie
+use Rattle.walk.proofs.visit_all.Reads as reads
+use Rattle.walk.proofs.visit_all.Lts as lts
+use Rattle.points.proofs.endpoint_at.Reads as endpoint-at-reads
+use Rattle.walk.proofs.visit.Reads as visit-reads
 
 abbrev Inv-loop : tie.InvT-loop
-Inv-loop v₀ t₀ o p k from w₀ i₀ end v t w i =
-    Pending (w₀ .strip) (passed o (w₀ .leg) (drop i₀ (endpointsOf k p))) v₀ t₀ (passed o (w .leg) (drop i (endpointsOf k p))) (w .strip) v t
-    × (walked (o .«half_width») (w₀ .leg) (drop i₀ (endpointsOf k p)) ≡ walked (o .«half_width») (w .leg) (drop i (endpointsOf k p)))
+Inv-loop v₀ t₀ o p k from sure write w₀ i₀ end v t w i = Pending write (w₀ .strip) (passed sure o (w₀ .leg) (drop i₀ (endpointsOf k p))) v₀ t₀ (passed sure o (w .leg) (drop i (endpointsOf k p))) (w .strip) v t × (walked sure (o .«half_width») (w₀ .leg) (drop i₀ (endpointsOf k p)) ≡ walked sure (o .«half_width») (w .leg) (drop i (endpointsOf k p))) × (length v ≡ length v₀) × (length t ≡ length t₀)
 
 abbrev μ-loop : tie.MeasureT-loop
-μ-loop v₀ t₀ o p k from w₀ i₀ end v t w i = end - i
+μ-loop v₀ t₀ o p k from sure write w₀ i₀ end v t w i = end - i
 
+-- src/lib.rt:108:5
 loop-holds : tie.Need-loop-holds Inv-loop μ-loop
-loop-holds c = (pending-all _ _ _ _ (c .before .before .before .pre .1), refl)
+loop-holds c = (pending-all _ _ _ _ _ (c .before .before .before .pre .1), refl, refl, refl)
 
+-- src/lib.rt:109:13
 endpoint-at-requires : tie.Need-endpoint-at-requires Inv-loop μ-loop
 endpoint-at-requires c κs = omega (arith, c .loop-test .taken, c .before .before .before .before .before .pre .0)
 
+-- src/lib.rt:110:9
 visit-requires : tie.Need-visit-requires Inv-loop μ-loop
-visit-requires c κs =
-    let l = c .before .before .before .before .loop in
-    let start = c .before .before .before .before .before .before .before .before in
-    let p = start .args .p .now in
-    let h : 2 * l .i + 2 ≤ length p = omega (arith, c .before .before .before .loop-test .taken) in
-    rw (c .before .before .endpoint-at .ensures) (visit-has _ _ _ _ (start .pre .1) (start .args .o) p (start .args .k) (l .i) h (l .w) (l .v) (l .t) (l .inv .0))
+visit-requires c κs = let l = c .before .before .before .before .loop in let p = c .before .before .before .before .before .before .before .before .args .p .now in let h : 2 * l .i + 2 ≤ length p = omega (arith, c .before .before .before .loop-test .taken) in rw (c .before .before .endpoint-at .ensures) (visit-has (c .before .before .before .before .before .before .before .before .args .sure) (c .before .before .before .before .before .before .before .before .args .write) _ _ _ _ (c .before .before .before .before .before .before .before .before .pre .1) (c .before .before .before .before .before .before .before .before .args .o) p (c .before .before .before .before .before .before .before .before .args .k) (l .i) h (l .w) (l .v) (l .t) (l .inv .0))
 
+-- src/lib.rt:111:9
 add-i : tie.Need-add-i Inv-loop μ-loop
 add-i c = omega (arith, c .before .before .before .before .before .before .before .before .loop-test .taken, c .before .before .before .before .before .before .before .before .before .before .before .before .before .pre .0)
 
+-- src/lib.rt:108:5
 loop-less : tie.Need-loop-less Inv-loop μ-loop
 loop-less c = omega (arith, c .before .before .before .before .before .before .before .before .loop-test .taken)
 
+-- src/lib.rt:108:5
 loop-again : tie.Need-loop-again Inv-loop μ-loop
 unfolding walked
-loop-again c =
-    let x = c .before .before .before .before in
-    let e = x .before .before .before in
-    let l = e .before .before .loop in
-    let start = e .before .before .before .before .before .before in
-    let p = start .args .p .now in
-    let h : 2 * l .i + 2 ≤ length p = omega (arith, e .before .loop-test .taken) in
-    let f : Visits (start .args .o) (l .w) (endpointAt p (start .args .k) (l .i)) (l .v) (x .visit .last .0) (l .t) (x .visit .last .1 .0) (x .visit .result) = rw (e .endpoint-at .ensures) at (x .visit .ensures) in
-    (visit-turn _ _ _ _ (start .pre .1) (start .args .o) p (start .args .k) (l .i) h (l .w) (l .v) (l .t) (l .inv .0) (x .visit .result) (x .visit .last .0) (x .visit .last .1 .0) f, l .inv .1 ∙ rw (points-at p (start .args .k) (l .i) h, f .leg))
+loop-again c = let l = c .before .before .before .before .before .before .before .before .before .loop in let p = c .before .before .before .before .before .before .before .before .before .before .before .before .before .args .p .now in let h : 2 * l .i + 2 ≤ length p = omega (arith, c .before .before .before .before .before .before .before .before .loop-test .taken) in let f : Visits (c .before .before .before .before .before .before .before .before .before .before .before .before .before .args .sure) (c .before .before .before .before .before .before .before .before .before .before .before .before .before .args .write) (c .before .before .before .before .before .before .before .before .before .before .before .before .before .args .o) (l .w) (endpointAt p (c .before .before .before .before .before .before .before .before .before .before .before .before .before .args .k) (l .i)) (l .v) (c .before .before .before .before .visit .last .0) (l .t) (c .before .before .before .before .visit .last .1 .0) (c .before .before .before .before .visit .result) = rw (c .before .before .before .before .before .before .before .endpoint-at .ensures) at (c .before .before .before .before .visit .ensures) in (visit-turn (c .before .before .before .before .before .before .before .before .before .before .before .before .before .args .sure) (c .before .before .before .before .before .before .before .before .before .before .before .before .before .args .write) _ _ _ _ (c .before .before .before .before .before .before .before .before .before .before .before .before .before .pre .1) (c .before .before .before .before .before .before .before .before .before .before .before .before .before .args .o) p (c .before .before .before .before .before .before .before .before .before .before .before .before .before .args .k) (l .i) h (l .w) (l .v) (l .t) (l .inv .0) (c .before .before .before .before .visit .result) (c .before .before .before .before .visit .last .0) (c .before .before .before .before .visit .last .1 .0) f, l .inv .1 ∙ rw (points-at p (c .before .before .before .before .before .before .before .before .before .before .before .before .before .args .k) (l .i) h, f .leg), search (needs, l .inv .2), search (needs, l .inv .3))
 
+-- src/lib.rt:90:1
 same-length : tie.Need-same-length Inv-loop μ-loop
-same-length c = c .before .loop .inv .0 .same-v
+same-length c = c .before .loop .inv .2
 
+-- src/lib.rt:90:1
 same-length-2 : tie.Need-same-length-2 Inv-loop μ-loop
-same-length-2 c = c .before .loop .inv .0 .same-t
+same-length-2 c = c .before .loop .inv .3
 
+-- src/lib.rt:90:1
 returns : tie.Need-returns Inv-loop μ-loop
 unfolding walked
-returns c =
-    let l = c .before .loop in
-    let start = c .before .before .before .before .before in
-    let ps = endpointsOf (start .args .k) (start .args .p .now) in
-    let done : length ps ≤ l .i = omega (arith, c .loop-test .left, points-length (start .args .p .now) (start .args .k)) in
-    let none : drop (l .i) ps ≡ [] = drop-of-length-le ps done in
-    record { leg = sym (l .inv .1 ∙ rw none); puts = pending-none _ _ _ _ (l .w .strip) (l .v) (l .t) (rw (none, passed-none (start .args .o) (l .w .leg)) at (l .inv .0)) }
+returns c = let l = c .before .loop in let ps = endpointsOf (c .before .before .before .before .before .args .k) (c .before .before .before .before .before .args .p .now) in let done : length ps ≤ l .i = omega (arith, c .loop-test .left, points-length (c .before .before .before .before .before .args .p .now) (c .before .before .before .before .before .args .k)) in let none : drop (l .i) ps ≡ [] = drop-of-length-le ps done in record { leg = sym (l .inv .1 ∙ rw none); puts = pending-none _ _ _ _ _ (l .w .strip) (l .v) (l .t) (rw (none, passed-none (c .before .before .before .before .before .args .o) (c .before .before .before .before .before .args .sure) (l .w .leg)) at (l .inv .0)) }
 
 pub visit-all-spec : {M : Type 1} → statement M
 visit-all-spec =

@@ -4,18 +4,15 @@ use borrow.Author.Needs.{needs}
 use Rattle.course.proofs.joint.joint_of.Statement.{statement}
 use Rattle.course.proofs.joint.joint_of.Tie as tie
 
-single-requires : tie.Need-single-requires
-single-requires c κs = search needs
+unworked-requires : tie.Need-unworked-requires
+unworked-requires c κs = search needs
 
-data-of-requires : tie.Need-data-of-requires
-data-of-requires c κs = search needs
-
-join-of-requires : tie.Need-join-of-requires
-join-of-requires c κs = search needs
+compute-join-side-positions-requires : tie.Need-compute-join-side-positions-requires
+compute-join-side-positions-requires c κs = search needs
 
 returns : tie.Need-returns
 unfolding jointOf
-returns c = rw (c .join-of .ensures, c .before .data-of .ensures, c .before .before .single .ensures)
+returns c = rw (c .compute-join-side-positions .ensures, c .before .unworked .ensures, c .before .before .pre)
 
 pub joint-of-spec : {M : Type 1} → statement M
-joint-of-spec = tie.close (tie.spec single-requires data-of-requires join-of-requires returns)
+joint-of-spec = tie.close (tie.spec unworked-requires compute-join-side-positions-requires returns)

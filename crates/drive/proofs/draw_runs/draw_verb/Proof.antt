@@ -8,7 +8,7 @@ use Rattle.path.specs.Verbs.{names}
 use Rattle.points.specs.Points.{endpointsOf}
 use Rattle.points.proofs.Indexed.{points-part}
 use Rattle.drive.specs.Cursor.{currentOf, endedOf}
-use Rattle.drive.proofs.Drawing.{puts-none, run-place, run-puts, one-has, one-puts}
+use Rattle.drive.proofs.Drawing.{v-place, t-place, puts-none, run-place, run-puts, one-has, one-puts}
 use Rattle.drive.proofs.draw_runs.draw_verb.Statement.{statement}
 use Rattle.drive.proofs.draw_runs.draw_verb.Tie as tie
 
@@ -17,7 +17,7 @@ names-point-requires c κs = search needs
 
 returns : tie.Need-returns
 unfolding endedOf
-returns c = rw (← c .before .names-point .ensures, c .if1 .taken) (puts-none _ _ _ _)
+returns c = rw (← c .before .names-point .ensures, c .if1 .taken) (puts-none _ _ _ _ _)
 
 mul-from : tie.Need-mul-from
 mul-from c = search needs
@@ -28,32 +28,46 @@ add-to c = search needs
 mul-to : tie.Need-mul-to
 mul-to c = search needs
 
-mul-at : tie.Need-mul-at
-mul-at c = omega (arith, c .before .before .before .before .before .before .before .pre .1 .vertices)
+mul-place-of : tie.Need-mul-place-of
+mul-place-of c = omega (arith, c .before .before .before .before .before .before .before .pre .1 .numbers)
 
-mul-on : tie.Need-mul-on
-mul-on c = search needs
+place-of-requires : tie.Need-place-of-requires
+place-of-requires c κs = search needs
+
+mul-place-of-2 : tie.Need-mul-place-of-2
+mul-place-of-2 c = omega (arith, c .before .before .before .before .before .before .before .before .pre .1 .faces)
+
+place-of-requires-2 : tie.Need-place-of-requires-2
+place-of-requires-2 c κs = search needs
 
 mul-draw-run : tie.Need-mul-draw-run
-mul-draw-run c = search needs
+mul-draw-run c =
+    let h = v-place _ _ _ _ _ _ (c .before .before .before .before .before .before .before .before .before .pre .1) _ (c .before .place-of .ensures) in
+    search (needs, h)
 
 sub-draw-run : tie.Need-sub-draw-run
-sub-draw-run c = search needs
+sub-draw-run c = v-place _ _ _ _ _ _ (c .before .before .before .before .before .before .before .before .before .pre .1) _ (c .before .place-of .ensures)
 
 part-draw-run-start : tie.Need-part-draw-run-start
-part-draw-run-start c = search needs
+part-draw-run-start c =
+    let h = v-place _ _ _ _ _ _ (c .before .before .before .before .before .before .before .before .before .pre .1) _ (c .before .place-of .ensures) in
+    search (needs, h)
 
 part-draw-run-end : tie.Need-part-draw-run-end
 part-draw-run-end c = search needs
 
 mul-draw-run-2 : tie.Need-mul-draw-run-2
-mul-draw-run-2 c = search needs
+mul-draw-run-2 c =
+    let h = t-place _ _ _ _ _ _ (c .before .before .before .before .before .before .before .before .before .before .pre .1) _ (c .before .place-of2 .ensures) in
+    search (needs, h)
 
 sub-draw-run-2 : tie.Need-sub-draw-run-2
-sub-draw-run-2 c = search needs
+sub-draw-run-2 c = t-place _ _ _ _ _ _ (c .before .before .before .before .before .before .before .before .before .before .pre .1) _ (c .before .place-of2 .ensures)
 
 part-draw-run-start-2 : tie.Need-part-draw-run-start-2
-part-draw-run-start-2 c = search needs
+part-draw-run-start-2 c =
+    let h = t-place _ _ _ _ _ _ (c .before .before .before .before .before .before .before .before .before .before .pre .1) _ (c .before .place-of2 .ensures) in
+    search (needs, h)
 
 part-draw-run-end-2 : tie.Need-part-draw-run-end-2
 part-draw-run-end-2 c = search needs
@@ -75,28 +89,32 @@ cast-draw-run c = search needs
 
 draw-run-requires : tie.Need-draw-run-requires
 draw-run-requires c κs =
-    let g = c .before .before .before .before .before .before .before .before .before .before .before .args .g in
-    let cs = c .before .before .before .before .before .before .before .before .before .before .before .args .coords .now in
-    let n : names (c .before .before .before .before .before .before .before .before .before .before .before .args .verb) ≡ false = sym (c .before .before .before .before .before .before .before .names-point .ensures) ∙ c .before .before .before .before .before .before .if1 .left in
-    ((simp (length-take, length-drop) (omega (arith, c .before .before .before .before .before .before .before .before .before .before .before .pre .0 .few)), omega (arith, c .before .before .before .before .before .before .before .before .before .before .before .pre .0 .end, c .before .before .before .before .before .before .before .before .before .before .before .pre .0 .few)), rw (points-part (g .from) (g .size) cs) (run-place _ _ (currentOf g (c .before .before .before .before .before .before .before .before .before .before .before .args .verb) (endpointsOf 0 cs)) _ _ (one-has _ _ g (c .before .before .before .before .before .before .before .before .before .before .before .args .verb) _ _ _ n (c .before .before .before .before .before .before .before .before .before .before .before .pre .1))))
+    let g = c .before .before .before .before .before .before .before .before .before .before .before .before .before .args .g in
+    let cs = c .before .before .before .before .before .before .before .before .before .before .before .before .before .args .coords .now in
+    let verb = c .before .before .before .before .before .before .before .before .before .before .before .before .before .args .verb in
+    let n : names verb ≡ false = sym (c .before .before .before .before .before .before .before .before .before .names-point .ensures) ∙ c .before .before .before .before .before .before .before .before .if1 .left in
+    let p = run-place _ _ (currentOf g verb (endpointsOf 0 cs)) _ _ _ _ _ (c .before .before .before .before .before .place-of .ensures) (c .before .before .before .before .place-of2 .ensures) (one-has _ _ _ g verb _ _ _ n (c .before .before .before .before .before .before .before .before .before .before .before .before .before .pre .1)) in
+    ((simp (length-take, length-drop) (omega (arith, c .before .before .before .before .before .before .before .before .before .before .before .before .before .pre .0 .few)), omega (arith, c .before .before .before .before .before .before .before .before .before .before .before .before .before .pre .0 .end, c .before .before .before .before .before .before .before .before .before .before .before .before .before .pre .0 .few)), rw (points-part (g .from) (g .size) cs) p)
 
-add-t16 : tie.Need-add-t16
-add-t16 c =
-    let g = c .before .before .before .before .before .before .before .before .before .before .before .before .before .before .before .before .before .args .g in
-    let cs = c .before .before .before .before .before .before .before .before .before .before .before .before .before .before .before .before .before .args .coords .now in
-    let n : names (c .before .before .before .before .before .before .before .before .before .before .before .before .before .before .before .before .before .args .verb) ≡ false = sym (c .before .before .before .before .before .before .before .before .before .before .before .before .before .names-point .ensures) ∙ c .before .before .before .before .before .before .before .before .before .before .before .before .if1 .left in
-    let p = run-place _ _ (currentOf g (c .before .before .before .before .before .before .before .before .before .before .before .before .before .before .before .before .before .args .verb) (endpointsOf 0 cs)) _ _ (one-has _ _ g (c .before .before .before .before .before .before .before .before .before .before .before .before .before .before .before .before .before .args .verb) _ _ _ n (c .before .before .before .before .before .before .before .before .before .before .before .before .before .before .before .before .before .pre .1)) in
+add-t17 : tie.Need-add-t17
+add-t17 c =
+    let g = c .before .before .before .before .before .before .before .before .before .before .before .before .before .before .before .before .before .before .before .args .g in
+    let cs = c .before .before .before .before .before .before .before .before .before .before .before .before .before .before .before .before .before .before .before .args .coords .now in
+    let verb = c .before .before .before .before .before .before .before .before .before .before .before .before .before .before .before .before .before .before .before .args .verb in
+    let n : names verb ≡ false = sym (c .before .before .before .before .before .before .before .before .before .before .before .before .before .before .before .names-point .ensures) ∙ c .before .before .before .before .before .before .before .before .before .before .before .before .before .before .if1 .left in
+    let p = run-place _ _ (currentOf g verb (endpointsOf 0 cs)) _ _ _ _ _ (c .before .before .before .before .before .before .before .before .before .before .before .place-of .ensures) (c .before .before .before .before .before .before .before .before .before .before .place-of2 .ensures) (one-has _ _ _ g verb _ _ _ n (c .before .before .before .before .before .before .before .before .before .before .before .before .before .before .before .before .before .before .before .pre .1)) in
     let e = rw (points-part (g .from) (g .size) cs) at (c .before .before .before .before .before .draw-run .ensures) in
     omega (arith, e .count, p .numbers)
 
-add-t18 : tie.Need-add-t18
-add-t18 c =
-    let g = c .before .before .before .before .before .before .before .before .before .before .before .before .before .before .before .before .before .before .args .g in
-    let cs = c .before .before .before .before .before .before .before .before .before .before .before .before .before .before .before .before .before .before .args .coords .now in
-    let n : names (c .before .before .before .before .before .before .before .before .before .before .before .before .before .before .before .before .before .before .args .verb) ≡ false = sym (c .before .before .before .before .before .before .before .before .before .before .before .before .before .before .names-point .ensures) ∙ c .before .before .before .before .before .before .before .before .before .before .before .before .before .if1 .left in
-    let p = run-place _ _ (currentOf g (c .before .before .before .before .before .before .before .before .before .before .before .before .before .before .before .before .before .before .args .verb) (endpointsOf 0 cs)) _ _ (one-has _ _ g (c .before .before .before .before .before .before .before .before .before .before .before .before .before .before .before .before .before .before .args .verb) _ _ _ n (c .before .before .before .before .before .before .before .before .before .before .before .before .before .before .before .before .before .before .pre .1)) in
+add-t19 : tie.Need-add-t19
+add-t19 c =
+    let g = c .before .before .before .before .before .before .before .before .before .before .before .before .before .before .before .before .before .before .before .before .args .g in
+    let cs = c .before .before .before .before .before .before .before .before .before .before .before .before .before .before .before .before .before .before .before .before .args .coords .now in
+    let verb = c .before .before .before .before .before .before .before .before .before .before .before .before .before .before .before .before .before .before .before .before .args .verb in
+    let n : names verb ≡ false = sym (c .before .before .before .before .before .before .before .before .before .before .before .before .before .before .before .before .names-point .ensures) ∙ c .before .before .before .before .before .before .before .before .before .before .before .before .before .before .before .if1 .left in
+    let p = run-place _ _ (currentOf g verb (endpointsOf 0 cs)) _ _ _ _ _ (c .before .before .before .before .before .before .before .before .before .before .before .before .place-of .ensures) (c .before .before .before .before .before .before .before .before .before .before .before .place-of2 .ensures) (one-has _ _ _ g verb _ _ _ n (c .before .before .before .before .before .before .before .before .before .before .before .before .before .before .before .before .before .before .before .before .pre .1)) in
     let e = rw (points-part (g .from) (g .size) cs) at (c .before .before .before .before .before .before .draw-run .ensures) in
-    omega (arith, e .faces, p .faces, c .before .before .before .before .before .before .before .before .before .before .before .before .before .before .before .before .before .before .pre .1 .faces)
+    omega (arith, e .faces, p .faces, c .before .before .before .before .before .before .before .before .before .before .before .before .before .before .before .before .before .before .before .before .pre .1 .faces)
 
 same-length : tie.Need-same-length
 same-length c = search needs
@@ -106,12 +124,13 @@ same-length-2 c = search needs
 
 returns-2 : tie.Need-returns-2
 returns-2 c =
-    let g = c .before .before .before .before .before .before .before .before .before .before .before .before .before .before .before .before .before .before .args .g in
-    let cs = c .before .before .before .before .before .before .before .before .before .before .before .before .before .before .before .before .before .before .args .coords .now in
-    let n : names (c .before .before .before .before .before .before .before .before .before .before .before .before .before .before .before .before .before .before .args .verb) ≡ false = sym (c .before .before .before .before .before .before .before .before .before .before .before .before .before .before .names-point .ensures) ∙ c .before .before .before .before .before .before .before .before .before .before .before .before .before .if1 .left in
-    let h = one-has _ _ g (c .before .before .before .before .before .before .before .before .before .before .before .before .before .before .before .before .before .before .args .verb) _ _ _ n (c .before .before .before .before .before .before .before .before .before .before .before .before .before .before .before .before .before .before .pre .1) in
+    let g = c .before .before .before .before .before .before .before .before .before .before .before .before .before .before .before .before .before .before .before .before .args .g in
+    let cs = c .before .before .before .before .before .before .before .before .before .before .before .before .before .before .before .before .before .before .before .before .args .coords .now in
+    let verb = c .before .before .before .before .before .before .before .before .before .before .before .before .before .before .before .before .before .before .before .before .args .verb in
+    let n : names verb ≡ false = sym (c .before .before .before .before .before .before .before .before .before .before .before .before .before .before .before .before .names-point .ensures) ∙ c .before .before .before .before .before .before .before .before .before .before .before .before .before .before .before .if1 .left in
+    let h = one-has _ _ _ g verb _ _ _ n (c .before .before .before .before .before .before .before .before .before .before .before .before .before .before .before .before .before .before .before .before .pre .1) in
     let e = rw (points-part (g .from) (g .size) cs) at (c .before .before .before .before .before .before .draw-run .ensures) in
-    one-puts _ _ g (c .before .before .before .before .before .before .before .before .before .before .before .before .before .before .before .before .before .before .args .verb) _ _ _ _ _ _ n (run-puts _ _ (currentOf g (c .before .before .before .before .before .before .before .before .before .before .before .before .before .before .before .before .before .before .args .verb) (endpointsOf 0 cs)) _ _ h _ _ _ _ e)
+    one-puts _ _ _ g verb _ _ _ _ _ _ n (run-puts _ _ (currentOf g verb (endpointsOf 0 cs)) _ _ _ _ _ (c .before .before .before .before .before .before .before .before .before .before .before .before .place-of .ensures) (c .before .before .before .before .before .before .before .before .before .before .before .place-of2 .ensures) h _ _ _ _ e)
 
 pub draw-verb-spec : {M : Type 1} → statement M
 draw-verb-spec =
@@ -122,8 +141,10 @@ draw-verb-spec =
     mul-from
     add-to
     mul-to
-    mul-at
-    mul-on
+    mul-place-of
+    place-of-requires
+    mul-place-of-2
+    place-of-requires-2
     mul-draw-run
     sub-draw-run
     part-draw-run-start
@@ -138,8 +159,8 @@ draw-verb-spec =
     part-draw-run-end-3
     cast-draw-run
     draw-run-requires
-    add-t16
-    add-t18
+    add-t17
+    add-t19
     same-length
     same-length-2
     returns-2)

@@ -1,5 +1,5 @@
 -- `join::side::clipped_pair` meets its contract. Assumes nothing.
-use Rattle.join.specs.Join.{clippedPairOf}
+use Rattle.join.specs.Side.{clippedPairOf}
 use borrow.Author.Needs.{needs}
 use Rattle.join.proofs.side.clipped_pair.Statement.{statement}
 use Rattle.join.proofs.side.clipped_pair.Tie as tie

@@ -1,5 +1,5 @@
 -- `join::side::miter_limit_is_exceeded` meets its contract. Assumes nothing.
-use Rattle.join.specs.Join.{exceededOf}
+use Rattle.join.specs.Side.{exceededOf}
 use borrow.Author.Needs.{needs}
 use Rattle.join.proofs.side.miter_limit_is_exceeded.Statement.{statement}
 use Rattle.join.proofs.side.miter_limit_is_exceeded.Tie as tie

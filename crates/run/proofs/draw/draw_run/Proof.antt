@@ -1,8 +1,8 @@
 -- `run::draw::draw_run` meets its contract. Assumes nothing.
 use lib.ListN.{length}
 use lib.Seq.{length-take-le}
-use Prim.Native.Nat.{_+_, _*_, _/_, _≤_}
-use mathlib.Core.Path.{_≡_, refl, sym, _∙_}
+use Prim.Native.Nat.{_*_, _≤_}
+use mathlib.Core.Path.{refl, sym}
 use native.Mathlib.Omega.{arith}
 use Rattle.run.proofs.Whole.{draws-nothing, no-points, open-shape, closed-shape}
 use borrow.Author.Needs.{needs}
@@ -12,7 +12,7 @@ use Rattle.run.proofs.draw.draw_run.Tie as tie
 returns : tie.Need-returns
 returns c =
     let start = c .before .before .before .before in
-    rw (no-points (start .args .o) (start .args .closed) _ (start .args .k) (c .if1 .taken)) (draws-nothing _ _ _ _ _)
+    rw (no-points (start .args .o) (start .args .closed) _ (start .args .k) (c .if1 .taken)) (draws-nothing _ _ _ _ _ _)
 
 kept-end-requires : tie.Need-kept-end-requires
 kept-end-requires c κs =

@@ -10,8 +10,8 @@ start-cap-requires c κs = search needs
 start-requires : tie.Need-start-requires
 start-requires c κs = search needs
 
-put-joint-requires : tie.Need-put-joint-requires
-put-joint-requires c κs = rw (c .before .before .start .ensures, c .before .before .before .start-cap .ensures) (c .before .before .before .before .before .before .pre)
+put-cap-requires : tie.Need-put-cap-requires
+put-cap-requires c κs = rw (c .before .before .start .ensures, c .before .before .before .start-cap .ensures) (c .before .before .before .before .before .before .pre)
 
 same-length : tie.Need-same-length
 same-length c = search needs
@@ -21,17 +21,7 @@ same-length-2 c = search needs
 
 returns : tie.Need-returns
 returns c =
-    let a = c .before .before .before .before in
-    let d = a .before .before .before in
-    record { leg = refl; puts = rw (d .start .ensures, d .before .start-cap .ensures) at (a .put-joint .ensures) }
+    record { leg = refl; puts = rw (c .before .before .before .before .before .before .before .start .ensures, c .before .before .before .before .before .before .before .before .start-cap .ensures) at (c .before .before .before .before .put-cap .ensures) }
 
 pub begin-spec : {M : Type 1} → statement M
-begin-spec =
-    tie.close
-    (tie.spec
-    start-cap-requires
-    start-requires
-    put-joint-requires
-    same-length
-    same-length-2
-    returns)
+begin-spec = tie.close (tie.spec start-cap-requires start-requires put-cap-requires same-length same-length-2 returns)

@@ -6,8 +6,8 @@ use Rattle.run.proofs.strips.finish.Tie as tie
 end-cap-requires : tie.Need-end-cap-requires
 end-cap-requires c κs = search needs
 
-put-joint-requires : tie.Need-put-joint-requires
-put-joint-requires c κs = rw (c .before .before .end-cap .ensures) (c .before .before .before .before .before .before .pre)
+put-cap-requires : tie.Need-put-cap-requires
+put-cap-requires c κs = rw (c .before .before .end-cap .ensures) (c .before .before .before .before .before .before .pre)
 
 same-length : tie.Need-same-length
 same-length c = search needs
@@ -16,10 +16,7 @@ same-length-2 : tie.Need-same-length-2
 same-length-2 c = search needs
 
 returns : tie.Need-returns
-returns c =
-    let a = c .before .before .before .before in
-    rw (a .before .before .before .end-cap .ensures) at (a .put-joint .ensures)
+returns c = rw (c .before .before .before .before .before .before .before .end-cap .ensures) at (c .before .before .before .before .put-cap .ensures)
 
 pub finish-spec : {M : Type 1} → statement M
-finish-spec =
-    tie.close (tie.spec end-cap-requires put-joint-requires same-length same-length-2 returns)
+finish-spec = tie.close (tie.spec end-cap-requires put-cap-requires same-length same-length-2 returns)

@@ -1,19 +1,55 @@
 -- `run::strips::go_round` meets its contract. Assumes nothing.
+use native.Mathlib.Omega.{arith}
+use Prim.Native.Nat.{_*_, _+_, _≤_}
+use mathlib.Core.Path.{sym}
+use lib.ListN.{length}
+use lib.Seq.{length-take-le}
+use borrow.Rule.Slice.PartMut.{mid-len}
+use Rattle.points.proofs.Indexed.{points-one, points-one-at}
 use Rattle.run.proofs.Writing.{home-has, on-has, round-puts}
 use borrow.Author.Needs.{needs}
 use Rattle.run.proofs.strips.go_round.Statement.{statement}
 use Rattle.run.proofs.strips.go_round.Tie as tie
 
-advance-requires : tie.Need-advance-requires
-advance-requires c κs =
-    let start = c .before .before .before .before in
-    home-has (start .args .o) (start .args .w) (start .args .p0) (start .args .p1) _ _ (start .pre)
+slice-aggregate-visit-all : tie.Need-slice-aggregate-visit-all
+slice-aggregate-visit-all c =
+    let h : 2 ≤ length (c .before .before .before .before .before .before .args .p .now) = omega (arith, c .before .before .before .before .before .before .pre .0 .point) in sym (length-take-le 2 (c .before .before .before .before .before .before .args .p .now) h)
 
-advance-requires-2 : tie.Need-advance-requires-2
-advance-requires-2 c κs =
-    let a = c .before .before .before .before .before .before in
-    let start = a .before .before .before .before .before in
-    on-has (start .args .o) (start .args .w) (start .args .p0) (start .args .p1) _ _ (start .pre) _ _ _ (a .advance .ensures)
+visit-all-requires : tie.Need-visit-all-requires
+visit-all-requires c κs =
+    ((omega (arith, length-take-le 2 (c .before .before .before .before .before .before .args .p .now) (omega (arith, c .before .before .before .before .before .before .pre .0 .point))), omega (arith, c .before .before .before .before .before .before .pre .0 .few)), rw (points-one (c .before .before .before .before .before .before .args .p .now) (c .before .before .before .before .before .before .args .k) (omega (arith, c .before .before .before .before .before .before .pre .0 .point))) (home-has _ _ _ _ _ _ _ (c .before .before .before .before .before .before .pre .1)))
+
+mul-from : tie.Need-mul-from
+mul-from c =
+    omega (arith, c .before .before .before .before .before .before .before .before .before .before .before .pre .0 .point, c .before .before .before .before .before .before .before .before .before .before .before .pre .0 .short)
+
+add-visit-all : tie.Need-add-visit-all
+add-visit-all c =
+    omega (arith, c .before .before .before .before .before .before .before .before .before .before .before .before .before .pre .0 .point, c .before .before .before .before .before .before .before .before .before .before .before .before .before .pre .0 .short)
+
+mul-visit-all : tie.Need-mul-visit-all
+mul-visit-all c = search needs
+
+sub-visit-all : tie.Need-sub-visit-all
+sub-visit-all c = omega (arith, c .before .before .before .before .before .before .before .before .before .before .before .before .before .pre .0 .point)
+
+part-visit-all-start : tie.Need-part-visit-all-start
+part-visit-all-start c = omega (arith, c .before .before .before .before .before .before .before .before .before .before .before .before .before .pre .0 .point)
+
+part-visit-all-end : tie.Need-part-visit-all-end
+part-visit-all-end c = omega (arith, c .before .before .before .before .before .before .before .before .before .before .before .before .before .pre .0 .point)
+
+cast-visit-all : tie.Need-cast-visit-all
+cast-visit-all c =
+    omega (arith, c .before .before .before .before .before .before .before .before .before .before .before .before .before .before .pre .0 .point, c .before .before .before .before .before .before .before .before .before .before .before .before .before .before .pre .0 .short)
+
+add-visit-all-2 : tie.Need-add-visit-all-2
+add-visit-all-2 c =
+    omega (arith, c .before .before .before .before .before .before .before .before .before .before .before .before .before .before .pre .0 .point, c .before .before .before .before .before .before .before .before .before .before .before .before .before .before .pre .0 .short, c .before .before .before .before .before .before .before .before .before .before .before .before .before .before .pre .0 .few)
+
+visit-all-requires-2 : tie.Need-visit-all-requires-2
+visit-all-requires-2 c κs =
+    ((omega (arith, mid-len (2 * c .before .before .before .before .before .before .before .before .before .before .before .before .before .before .args .i) (2 * c .before .before .before .before .before .before .before .before .before .before .before .before .before .before .args .i + 2) (c .before .before .before .before .before .before .before .before .before .before .before .before .before .before .args .p .now) (c .before .before .before .before .before .before .before .before .before .before .before .before .before .before .pre .0 .point)), omega (arith, c .before .before .before .before .before .before .before .before .before .before .before .before .before .before .pre .0 .few, c .before .before .before .before .before .before .before .before .before .before .before .before .before .before .pre .0 .point, c .before .before .before .before .before .before .before .before .before .before .before .before .before .before .pre .0 .short)), rw (points-one-at (c .before .before .before .before .before .before .before .before .before .before .before .before .before .before .args .p .now) (c .before .before .before .before .before .before .before .before .before .before .before .before .before .before .args .k) (c .before .before .before .before .before .before .before .before .before .before .before .before .before .before .args .i) (c .before .before .before .before .before .before .before .before .before .before .before .before .before .before .pre .0 .point)) (on-has _ _ _ _ _ _ _ (c .before .before .before .before .before .before .before .before .before .before .before .before .before .before .pre .1) _ _ _ (rw (points-one (c .before .before .before .before .before .before .before .before .before .before .before .before .before .before .args .p .now) (c .before .before .before .before .before .before .before .before .before .before .before .before .before .before .args .k) (omega (arith, c .before .before .before .before .before .before .before .before .before .before .before .before .before .before .pre .0 .point))) at (c .before .before .before .before .before .before .before .visit-all .ensures))))
 
 same-length : tie.Need-same-length
 same-length c = search needs
@@ -23,11 +59,7 @@ same-length-2 c = search needs
 
 returns : tie.Need-returns
 returns c =
-    let b = c .before .before .before .before .before in
-    let a = b .before .before .before .before .before .before .before in
-    let start = a .before .before .before .before .before in
-    round-puts (start .args .o) (start .args .w) (start .args .p0) (start .args .p1) _ _ (start .pre) _ _ _ (a .advance .ensures) _ _ _ (b .advance2 .ensures)
+    round-puts _ _ _ _ _ _ _ (c .before .before .before .before .before .before .before .before .before .before .before .before .before .before .before .before .before .before .before .before .pre .1) _ _ _ (rw (points-one (c .before .before .before .before .before .before .before .before .before .before .before .before .before .before .before .before .before .before .before .before .args .p .now) (c .before .before .before .before .before .before .before .before .before .before .before .before .before .before .before .before .before .before .before .before .args .k) (omega (arith, c .before .before .before .before .before .before .before .before .before .before .before .before .before .before .before .before .before .before .before .before .pre .0 .point))) at (c .before .before .before .before .before .before .before .before .before .before .before .before .before .visit-all .ensures)) _ _ _ (rw (points-one-at (c .before .before .before .before .before .before .before .before .before .before .before .before .before .before .before .before .before .before .before .before .args .p .now) (c .before .before .before .before .before .before .before .before .before .before .before .before .before .before .before .before .before .before .before .before .args .k) (c .before .before .before .before .before .before .before .before .before .before .before .before .before .before .before .before .before .before .before .before .args .i) (c .before .before .before .before .before .before .before .before .before .before .before .before .before .before .before .before .before .before .before .before .pre .0 .point)) at (c .before .before .before .before .before .visit-all2 .ensures))
 
 pub go-round-spec : {M : Type 1} → statement M
-go-round-spec =
-    tie.close (tie.spec advance-requires advance-requires-2 same-length same-length-2 returns)
+go-round-spec = tie.close (tie.spec slice-aggregate-visit-all visit-all-requires mul-from add-visit-all mul-visit-all sub-visit-all part-visit-all-start part-visit-all-end cast-visit-all add-visit-all-2 visit-all-requires-2 same-length same-length-2 returns)

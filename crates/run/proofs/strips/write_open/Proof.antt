@@ -10,57 +10,29 @@ first-leg-requires c κs = search needs
 
 begin-requires : tie.Need-begin-requires
 begin-requires c κs =
-    let start = c .before .before .before .before .before .before in
-    rw (c .before .before .first-leg .ensures) (begin-has (start .args .o) _ _ _ (start .args .base) _ _ (start .pre .1))
+    rw (c .before .before .first-leg .ensures) (begin-has (c .before .before .before .before .before .before .args .write) (c .before .before .before .before .before .before .args .o) _ _ _ (c .before .before .before .before .before .before .args .base) _ _ (c .before .before .before .before .before .before .pre .1))
 
 add-visit-all : tie.Need-add-visit-all
-add-visit-all c =
-    let start = c .before .before .before .before .before .before .before .before .before .before .before .before .before in
-    omega (arith, start .pre .0)
+add-visit-all c = omega (arith, c .before .before .before .before .before .before .before .before .before .before .before .before .before .pre .0)
 
 visit-all-requires : tie.Need-visit-all-requires
 visit-all-requires c κs =
-    let b = c .before .before .before .before .before .before in
-    let f = b .before .before .before in
-    let start = f .before .before .before .before in
-    ((start .pre .0 .short, start .pre .0 .few), pass-has (start .args .o) _ _ _ (start .args .base) _ _ (start .pre .1) _ _ _ (rw (f .first-leg .ensures) at (b .begin .ensures)))
+    ((c .before .before .before .before .before .before .before .before .before .before .before .before .before .pre .0 .short, omega (arith, c .before .before .before .before .before .before .before .before .before .before .before .before .before .pre .0 .few)), pass-has (c .before .before .before .before .before .before .before .before .before .before .before .before .before .args .write) (c .before .before .before .before .before .before .before .before .before .before .before .before .before .args .o) _ _ _ (c .before .before .before .before .before .before .before .before .before .before .before .before .before .args .base) _ _ (c .before .before .before .before .before .before .before .before .before .before .before .before .before .pre .1) _ _ _ (rw (c .before .before .before .before .before .before .before .before .before .first-leg .ensures) at (c .before .before .before .before .before .before .begin .ensures)))
 
 finish-requires : tie.Need-finish-requires
 finish-requires c κs =
-    let a = c .before .before .before .before .before .before in
-    let b = a .before .before .before .before .before .before .before in
-    let f = b .before .before .before in
-    let start = f .before .before .before .before in
-    finish-has (start .args .o) _ _ _ (start .args .base) _ _ (start .pre .1) _ _ _ (rw (f .first-leg .ensures) at (b .begin .ensures)) _ _ _ (a .visit-all .ensures)
+    finish-has (c .before .before .before .before .before .before .before .before .before .before .before .before .before .before .before .before .before .before .before .before .args .write) (c .before .before .before .before .before .before .before .before .before .before .before .before .before .before .before .before .before .before .before .before .args .o) _ _ _ (c .before .before .before .before .before .before .before .before .before .before .before .before .before .before .before .before .before .before .before .before .args .base) _ _ (c .before .before .before .before .before .before .before .before .before .before .before .before .before .before .before .before .before .before .before .before .pre .1) _ _ _ (rw (c .before .before .before .before .before .before .before .before .before .before .before .before .before .before .before .before .first-leg .ensures) at (c .before .before .before .before .before .before .before .before .before .before .before .before .before .begin .ensures)) _ _ _ (c .before .before .before .before .before .before .visit-all .ensures)
 
 same-length : tie.Need-same-length
 same-length c =
-    let e = c .before .before .before .before in
-    let a = e .before .before .before .before .before .before .before in
-    let b = a .before .before .before .before .before .before .before in
-    omega (arith, e .finish .kept, a .visit-all .kept, b .begin .kept)
+    omega (arith, c .before .before .before .before .finish .kept, c .before .before .before .before .before .before .before .before .before .before .before .visit-all .kept, c .before .before .before .before .before .before .before .before .before .before .before .before .before .before .before .before .before .before .begin .kept)
 
 same-length-2 : tie.Need-same-length-2
 same-length-2 c = search needs
 
 returns : tie.Need-returns
 returns c =
-    let e = c .before .before .before .before in
-    let a = e .before .before .before .before .before .before .before in
-    let b = a .before .before .before .before .before .before .before in
-    let f = b .before .before .before in
-    let start = f .before .before .before .before in
-    open-puts (start .args .o) _ _ _ (start .args .base) _ _ (start .pre .1) _ _ _ (rw (f .first-leg .ensures) at (b .begin .ensures)) _ _ _ (a .visit-all .ensures) _ _ _ (e .finish .ensures)
+    open-puts (c .before .before .before .before .before .before .before .before .before .before .before .before .before .before .before .before .before .before .before .before .before .before .before .before .before .args .write) (c .before .before .before .before .before .before .before .before .before .before .before .before .before .before .before .before .before .before .before .before .before .before .before .before .before .args .o) _ _ _ (c .before .before .before .before .before .before .before .before .before .before .before .before .before .before .before .before .before .before .before .before .before .before .before .before .before .args .base) _ _ (c .before .before .before .before .before .before .before .before .before .before .before .before .before .before .before .before .before .before .before .before .before .before .before .before .before .pre .1) _ _ _ (rw (c .before .before .before .before .before .before .before .before .before .before .before .before .before .before .before .before .before .before .before .before .before .first-leg .ensures) at (c .before .before .before .before .before .before .before .before .before .before .before .before .before .before .before .before .before .before .begin .ensures)) _ _ _ (c .before .before .before .before .before .before .before .before .before .before .before .visit-all .ensures) _ _ _ (c .before .before .before .before .finish .ensures)
 
 pub write-open-spec : {M : Type 1} → statement M
-write-open-spec =
-    tie.close
-    (tie.spec
-    first-leg-requires
-    begin-requires
-    add-visit-all
-    visit-all-requires
-    finish-requires
-    same-length
-    same-length-2
-    returns)
+write-open-spec = tie.close (tie.spec first-leg-requires begin-requires add-visit-all visit-all-requires finish-requires same-length same-length-2 returns)

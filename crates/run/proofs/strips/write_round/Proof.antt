@@ -1,6 +1,5 @@
 -- `run::strips::write_round` meets its contract. Assumes nothing.
 use native.Mathlib.Omega.{arith}
-use Rattle.course.specs.Leg.{legOf}
 use Rattle.run.proofs.Writing.{way-has, round-has, closed-puts}
 use borrow.Author.Needs.{needs}
 use Rattle.run.proofs.strips.write_round.Statement.{statement}
@@ -17,18 +16,11 @@ add-visit-all c = omega (arith, c .before .before .before .before .before .befor
 
 visit-all-requires : tie.Need-visit-all-requires
 visit-all-requires c κs =
-    let f = c .before .before .before in
-    let start = f .before .before .before .before in
-    ((start .pre .0 .short, start .pre .0 .few), rw (c .before .before .start .ensures, f .first-leg .ensures) (way-has (start .args .o) _ _ _ (start .args .base) _ _ (start .pre .1)))
+    ((c .before .before .before .before .before .before .before .pre .0 .short, omega (arith, c .before .before .before .before .before .before .before .pre .0 .few)), rw (c .before .before .start .ensures, c .before .before .before .first-leg .ensures) (way-has (c .before .before .before .before .before .before .before .args .write) (c .before .before .before .before .before .before .before .args .o) _ _ _ (c .before .before .before .before .before .before .before .args .base) _ _ (c .before .before .before .before .before .before .before .pre .1)))
 
 go-round-requires : tie.Need-go-round-requires
-unfolding legOf
 go-round-requires c κs =
-    let a = c .before .before .before .before .before .before in
-    let s = a .before .before .before in
-    let f = s .before in
-    let start = f .before .before .before .before in
-    rw (f .first-leg .ensures) (round-has (start .args .o) _ _ _ (start .args .base) _ _ (start .pre .1) _ _ _ (rw (s .start .ensures, f .first-leg .ensures) at (a .visit-all .ensures)))
+    (c .before .before .before .before .before .before .before .before .before .before .before .before .before .before .pre .0, round-has (c .before .before .before .before .before .before .before .before .before .before .before .before .before .before .args .write) (c .before .before .before .before .before .before .before .before .before .before .before .before .before .before .args .o) _ _ _ (c .before .before .before .before .before .before .before .before .before .before .before .before .before .before .args .base) _ _ (c .before .before .before .before .before .before .before .before .before .before .before .before .before .before .pre .1) _ _ _ (rw (c .before .before .before .before .before .before .before .before .before .start .ensures, c .before .before .before .before .before .before .before .before .before .before .first-leg .ensures) at (c .before .before .before .before .before .before .visit-all .ensures)))
 
 same-length : tie.Need-same-length
 same-length c = search needs
@@ -37,24 +29,8 @@ same-length-2 : tie.Need-same-length-2
 same-length-2 c = search needs
 
 returns : tie.Need-returns
-unfolding legOf
 returns c =
-    let e = c .before .before .before .before in
-    let a = e .before .before .before .before .before .before .before in
-    let s = a .before .before .before in
-    let f = s .before in
-    let start = f .before .before .before .before in
-    closed-puts (start .args .o) _ _ _ (start .args .base) _ _ (start .pre .1) _ _ _ (rw (s .start .ensures, f .first-leg .ensures) at (a .visit-all .ensures)) _ _ _ (rw (f .first-leg .ensures) at (e .go-round .ensures))
+    closed-puts (c .before .before .before .before .before .before .before .before .before .before .before .before .before .before .before .before .before .before .before .args .write) (c .before .before .before .before .before .before .before .before .before .before .before .before .before .before .before .before .before .before .before .args .o) _ _ _ (c .before .before .before .before .before .before .before .before .before .before .before .before .before .before .before .before .before .before .before .args .base) _ _ (c .before .before .before .before .before .before .before .before .before .before .before .before .before .before .before .before .before .before .before .pre .1) _ _ _ (rw (c .before .before .before .before .before .before .before .before .before .before .before .before .before .before .start .ensures, c .before .before .before .before .before .before .before .before .before .before .before .before .before .before .before .first-leg .ensures) at (c .before .before .before .before .before .before .before .before .before .before .before .visit-all .ensures)) _ _ _ (c .before .before .before .before .go-round .ensures)
 
 pub write-round-spec : {M : Type 1} → statement M
-write-round-spec =
-    tie.close
-    (tie.spec
-    first-leg-requires
-    start-requires
-    add-visit-all
-    visit-all-requires
-    go-round-requires
-    same-length
-    same-length-2
-    returns)
+write-round-spec = tie.close (tie.spec first-leg-requires start-requires add-visit-all visit-all-requires go-round-requires same-length same-length-2 returns)

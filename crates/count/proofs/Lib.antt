@@ -1,2 +1,0 @@
--- `Laws` says what the tally along a run counts.
-pub mod Laws

@@ -1,0 +1,22 @@
+-- `join::record::side_normal` meets its contract. Assumes nothing.
+use Rattle.join.specs.Record.{sideNormalOf}
+use borrow.Author.Needs.{needs}
+use Rattle.join.proofs.record.side_normal.Statement.{statement}
+use Rattle.join.proofs.record.side_normal.Tie as tie
+
+join-normal-requires : tie.Need-join-normal-requires
+join-normal-requires c κs = search needs
+
+side-sign-requires : tie.Need-side-sign-requires
+side-sign-requires c κs = search needs
+
+times-requires : tie.Need-times-requires
+times-requires c κs = search needs
+
+returns : tie.Need-returns
+unfolding sideNormalOf
+returns c = rw (c .times .ensures, c .before .side-sign .ensures, c .before .before .join-normal .ensures)
+
+pub side-normal-spec : {M : Type 1} → statement M
+side-normal-spec =
+    tie.close (tie.spec join-normal-requires side-sign-requires times-requires returns)

@@ -1,0 +1,79 @@
+-- A joint's step, counted: each of its vertices brings a triangle, but for the first two of a run. Assumes nothing.
+use Prim.Native.Nat.{ℕ, _+_, _-_}
+use mathlib.Core.Path.{_≡_, refl, sym, _∙_}
+use mathlib.Core.Bool.{Bool, true, false, cond}
+use mathlib.Core.List.{List, [], _∷_}
+use mathlib.Core.Logic.{_≢_}
+use native.Mathlib.Omega.{arith}
+use lib.Ieee.{Float}
+use lib.ListN.{length, length-append}
+use Rattle.endpoint.specs.Endpoint.{sideCountOf}
+use Rattle.endpoint.specs.declared.EndpointData.{EndpointData}
+use Rattle.strip.specs.declared.Strip.{Strip}
+use Rattle.strip.specs.declared.section.Section.{Section}
+use Rattle.strip.specs.Joint.{jointCount}
+use Rattle.strip.specs.Section.{sectionOf, beforeOf, afterOf}
+use Rattle.strip.specs.Triangle.{between, past}
+use Rattle.strip.specs.Strip.{nextOf, stepTriangles, stepOf, steppedOf, stepsOf, Behind, Sound, Steps, Lays, Has, Puts}
+use Rattle.strip.proofs.Joints.{side-few, count-one}
+use Rattle.strip.proofs.Triangles.{between-same}
+use Rattle.strip.proofs.Facts.Ladder.{between-both, length-ladder, inner-is, length-inner, beforeN}
+
+-- to a section of new numbers come two triangles
+to-new : (s : Section) (m q : ℕ) → s .negative .0 ≢ s .positive .0 → s .positive .0 ≢ q → s .negative .0 ≢ q → q ≢ m → s .negative .0 ≢ m
+    → length (between s (sectionOf m q)) ≡ 2
+to-new s m q f g h i j = rw (between-both (s .negative .0) (s .positive .0) m q f g h i j, length-ladder)
+
+within : (k : ℕ) (j : EndpointData) → 2 + length (between (beforeOf k j) (afterOf k j)) ≡ jointCount j
+within k j = rw (inner-is k j, length-ladder) (length-inner k j)
+
+step-length : (s : Strip) (j : EndpointData) → Sound s → length (stepTriangles s j) + cond (s .begun) 0 2 ≡ jointCount j
+unfolding stepTriangles
+step-length s j o = go (s .begun) (o .behind)
+  where
+    k : ℕ
+    k = nextOf s
+
+    b : Section
+    b = beforeOf k j
+
+    a : Section
+    a = afterOf k j
+
+    go : (t : Bool) → (t ≡ true → Behind s) → length (past (cond t (s .last) b) b a) + cond t 0 2 ≡ jointCount j
+    go true h =
+        let q = side-few (j .positive) in
+        let g = h refl in
+        let two = to-new (s .last) (beforeN k j) k (g .apart) (λ z. omega (arith, g .positive)) (λ z. omega (arith, g .negative)) (λ z. omega arith) (λ z. omega (arith, g .negative)) in
+        rw length-append (omega (arith, two, within k j))
+    go false h = rw (length-append, between-same b) (omega (arith, within k j))
+
+faces : (t : Bool) (m l c : ℕ) → l + cond t 0 2 ≡ c → m + l ≡ cond t (m + c) (m + c - 2)
+faces true m l c h = omega arith
+faces false m l c h = omega arith
+
+pub stepped-is : (s : Strip) (j : EndpointData) → Sound s → stepOf s j ≡ steppedOf s (sideCountOf (j .positive)) (sideCountOf (j .negative))
+unfolding stepOf steppedOf
+stepped-is s j o =
+    let p = sideCountOf (j .positive) in
+    let n = sideCountOf (j .negative) in
+    let last : nextOf s + p + n - 1 ≡ nextOf s + (p + n) - 1 = omega arith in
+    rw (faces (s .begun) (s .triangles) (length (stepTriangles s j)) (p + n) (step-length s j o), last)
+
+-- a pass over one joint, whose sides have p and n vertices
+module _ {write : Bool} {s : Strip} {j : EndpointData} {v : List Float} {t : List ℕ} (h : Has write s (j ∷ []) v t)
+    (p n : ℕ) (ep : p ≡ sideCountOf (j .positive)) (en : n ≡ sideCountOf (j .negative)) where
+  pub steps-one : Steps s p n
+  steps-one =
+      let a = side-few (j .positive) in
+      let b = side-few (j .negative) in
+      record {
+        positive = (omega arith, omega arith);
+        negative = (omega arith, omega arith);
+        numbers = omega (arith, h .numbers, count-one j);
+        faces = omega (arith, h .faces);
+      }
+
+  pub puts-one : (s' : Strip) (v' : List Float) (t' : List ℕ) → s' ≡ steppedOf s p n → (write ≡ true → Lays (j ∷ []) s v v' t t') → Puts write (j ∷ []) s v v' t t' s'
+  unfolding stepsOf
+  puts-one s' v' t' e l = record { state = e ∙ rw (ep, en) (sym (stepped-is s j (h .sound))); lays = l }
