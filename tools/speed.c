@@ -1,0 +1,47 @@
+/* tools/speed.c: strokes one open run of POINTS points REPEAT times, for whoever counts instructions or time around it (docs/SPEED.md).
+ * usage: speed gentle|sharp|right plenty|exact POINTS REPEAT; the empty loop is REPEAT 0. Edges are 5 long; Miter 4, Butt, width 2.
+ */
+#include "stipeharbor.h"
+#include <stdio.h>
+#include <stdlib.h>
+#include <string.h>
+#include <math.h>
+
+enum { POINTS = 4095 };
+
+static uint8_t verbs[POINTS + 1];
+static float coords[2 * POINTS];
+static float vertices[5 * 4 * POINTS];
+static uint16_t triangles[3 * 4 * POINTS];
+
+/* Turns to 17 degrees, to 169, or of 90, to either side as a congruential sequence says. */
+static void fill(const char *kind, size_t n) {
+    double x = 0, y = 0, direction = 0;
+    uint32_t s = 12345;
+    for (size_t i = 0; i < n; i++) {
+        coords[2 * i] = (float)x, coords[2 * i + 1] = (float)y;
+        verbs[i] = i ? STIPEHARBOR_LINE : STIPEHARBOR_BEGIN;
+        s = s * 1664525 + 1013904223;
+        double most = *kind == 'g' ? 17 : *kind == 's' ? 169 : 90;
+        double part = *kind == 'r' ? (s >> 31 ? 1 : -1) : (s >> 8) / 8388608.0 - 1;
+        direction += part * most * 3.14159265358979 / 180;
+        x += 5 * cos(direction), y += 5 * sin(direction);
+    }
+    verbs[n] = STIPEHARBOR_END_OPEN;
+}
+
+static uint32_t stroke(size_t n, size_t vertex_floats, size_t triangle_numbers, size_t *answer) {
+    return stipeharbor_tessellate(verbs, n + 1, coords, 2 * n, 2, 4, STIPEHARBOR_MITER, STIPEHARBOR_BUTT, vertices, vertex_floats, triangles, triangle_numbers, answer, 3);
+}
+
+int main(int argc, char **argv) {
+    size_t n = argc == 5 ? strtoul(argv[3], 0, 10) : 0, repeat = argc == 5 ? strtoul(argv[4], 0, 10) : 0;
+    if (n < 1 || n > POINTS) return fprintf(stderr, "usage: speed gentle|sharp|right plenty|exact POINTS REPEAT\n"), 2;
+    fill(argv[1], n);
+    size_t answer[3], nv = sizeof vertices / sizeof *vertices, nt = sizeof triangles / sizeof *triangles;
+    uint32_t number = stroke(n, nv, nt, answer);
+    if (*argv[2] == 'e') nv = 5 * answer[1], nt = 3 * answer[2];
+    for (size_t i = 0; i < repeat; i++) number |= stroke(n, nv, nt, answer);
+    printf("%u: %zu vertices, %zu triangles\n", number, answer[1], answer[2]);
+    return number != 0;
+}
