@@ -26,7 +26,7 @@ enum stipeharbor_number {
     STIPEHARBOR_TOO_MANY_VERBS = 2, /* more than STIPEHARBOR_VERB_LIMIT verbs */
     STIPEHARBOR_VERB = 3,           /* the verb at the place is unknown or misplaced; or, at the number of verbs, a run has no end or the coordinates are not two to each begin or line */
     STIPEHARBOR_COORDINATE = 4,     /* the coordinate at the place is not finite or too large */
-    STIPEHARBOR_SHORT_EDGE = 5,     /* the edge at the place, of those that are drawn, is too short to have two sides */
+    STIPEHARBOR_SHORT_EDGE = 5,     /* the edge at the place, of those that are drawn, is too short to have two sides; proved never to be given */
     STIPEHARBOR_VERTEX_ROOM = 6,    /* too few vertex places; the counts say how many are needed */
     STIPEHARBOR_TRIANGLE_ROOM = 7,  /* too few triangle places; the counts say how many are needed */
     STIPEHARBOR_TOO_LONG = 8,       /* the text has more than STIPEHARBOR_TEXT_LIMIT bytes */

@@ -1,15 +1,14 @@
--- How many points are kept, and how many joints and legs they make: n points, n joints, and n legs, or one fewer where the run is open. Assumes nothing.
+-- How many points are kept, and how many joints they make: as many. Assumes nothing.
 use Prim.Native.Nat.{suc, _+_, _≤_}
-use mathlib.Core.Path.{_≡_, refl, ap, _∙_}
+use mathlib.Core.Path.{_≡_, refl, _∙_}
 use mathlib.Core.Bool.{Bool, true, false, cond}
 use mathlib.Core.List.{List, [], _∷_, _++_}
 use native.Mathlib.Omega.{arith}
-use lib.Ieee.{Float}
 use lib.ListN.{length, length-append}
 use Rattle.endpoint.specs.declared.Endpoint.{Endpoint}
 use Rattle.path.specs.declared.options.Stroke.{Stroke}
 use Rattle.course.specs.Kept.{near, keptBehind, allNear, trimmed, keptPoints}
-use Rattle.course.specs.Leg.{firstLegOf, nextLegOf, legsFrom, legsOf, shortOf, firstShort}
+use Rattle.course.specs.Leg.{firstLegOf, nextLegOf}
 use Rattle.course.specs.Joint.{jointsFrom, jointsOf}
 use Rattle.course.specs.declared.leg.Leg.{Leg}
 
@@ -48,28 +47,3 @@ pub joints-length : (closed : Bool) (o : Stroke) (p q : Endpoint) (ks : List End
 unfolding jointsOf
 joints-length true o p q ks = joints-from true o (firstLegOf (o .«half_width») p q) (ks ++ p ∷ q ∷ []) ∙ simp length-append (omega arith)
 joints-length false o p q ks = omega (arith, joints-from false o (firstLegOf (o .«half_width») p q) ks)
-
-legs-from : (h : Float) (leg : Leg) (ps : List Endpoint) → length (legsFrom h leg ps) ≡ length ps
-unfolding legsFrom
-legs-from h leg [] = refl
-legs-from h leg (p ∷ ps) = ap suc (legs-from h (nextLegOf h leg p) ps)
-
-legs-few : (closed : Bool) (h : Float) (p q : Endpoint) (ks : List Endpoint) → length (legsOf closed h (p ∷ q ∷ ks)) ≤ length (p ∷ q ∷ ks)
-unfolding legsOf
-legs-few true h p q ks = omega (arith, legs-from h (firstLegOf h p q) (ks ++ p ∷ []), length-append ks (p ∷ []))
-legs-few false h p q ks = omega (arith, legs-from h (firstLegOf h p q) (ks ++ []), length-append {A = Endpoint} ks [])
-
-pub legs-length : (closed : Bool) (h : Float) (ks : List Endpoint) → length (legsOf closed h ks) ≤ length ks
-unfolding legsOf
-legs-length closed h [] = omega arith
-legs-length closed h (p ∷ []) = omega arith
-legs-length closed h (p ∷ q ∷ ks) = legs-few closed h p q ks
-
-pub short-few : (ls : List Leg) → firstShort ls ≤ length ls
-unfolding firstShort
-short-few [] = omega arith
-short-few (l ∷ ls) = go (shortOf l) (short-few ls)
-  where
-    go : (b : Bool) → firstShort ls ≤ length ls → cond b 0 (suc (firstShort ls)) ≤ suc (length ls)
-    go true a = omega arith
-    go false a = omega arith

@@ -7,13 +7,10 @@ use lib.ListN.{length, length-append}
 use Rattle.endpoint.specs.declared.Endpoint.{Endpoint}
 use Rattle.path.specs.declared.options.Stroke.{Stroke}
 use Rattle.path.specs.Runs.{Run, pointsOf}
-use Rattle.course.specs.Kept.{keptPoints}
-use Rattle.course.specs.Leg.{legsOf}
-use Rattle.course.proofs.Lengths.{kept-few, legs-length, short-few}
 use Rattle.run.specs.Run.{shapeCount}
 use Rattle.run.proofs.Facts.{run-within, run-anywhere}
 use Rattle.run.proofs.Whole.{length-shape}
-use Rattle.drive.specs.Runs.{Count, drawnOf, meshVertices, meshCount, meshTriangles, meshEdges, meshCounts}
+use Rattle.drive.specs.Runs.{Count, drawnOf, meshVertices, meshCount, meshTriangles, meshCounts}
 
 module _ (o : Stroke) where
   pub vertices-append : (xs ys : List (Run Endpoint)) → meshVertices o (xs ++ ys) ≡ meshVertices o xs ++ meshVertices o ys
@@ -47,24 +44,19 @@ module _ (o : Stroke) where
       let s = drawnOf o r in
       simp length-append (omega (arith, run-anywhere o (r .closed) k (r .points), triangles-anywhere (k + shapeCount s) rs, triangles-anywhere (0 + shapeCount s) rs))
 
--- ---- bounds, in one place: four vertices and one edge to a point, no more triangles than vertices
+-- ---- bounds, in one place: four vertices to a point, no more triangles than vertices
 pub record Bounded (n : ℕ) (c : Count) : Type 0 where
   pub vertices : c .vertices ≤ 4 * n
   pub triangles : c .triangles ≤ c .vertices
-  pub legs : c .legs ≤ n
-  pub short : c .short ≤ c .legs
 
 pub runs-bounded : (o : Stroke) (rs : List (Run Endpoint)) → Bounded (length (pointsOf rs)) (meshCounts o rs)
-unfolding meshCount meshTriangles meshEdges pointsOf
-runs-bounded o [] = record { vertices = omega arith; triangles = omega arith; legs = omega arith; short = short-few [] }
+unfolding meshCount meshTriangles pointsOf
+runs-bounded o [] = record { vertices = omega arith; triangles = omega arith }
 runs-bounded o (r ∷ rs) =
     let b = runs-bounded o rs in
     let w = run-within o (r .closed) 0 (r .points) in
-    let ls = legsOf (r .closed) (o .«half_width») (keptPoints (r .closed) (r .points)) in
     let k = 0 + shapeCount (drawnOf o r) in
     record {
       vertices = simp length-append (omega (arith, b .vertices, w .vertices));
       triangles = simp length-append (omega (arith, b .triangles, w .triangles, triangles-anywhere o k rs));
-      legs = simp length-append (omega (arith, b .legs, legs-length (r .closed) (o .«half_width») (keptPoints (r .closed) (r .points)), kept-few (r .closed) (r .points)));
-      short = short-few (ls ++ meshEdges o rs);
     }

@@ -110,9 +110,9 @@ pub fn compute_join_side_positions(
 ) -> EndpointData
     ensures { λ r. ⌜ r ≡ sidePositionsOf before join after c limit ⌝ }
 {
-    let position = join.position;
+    let at = join.position;
     let h = join.half_width;
-    let line_join = join.line_join;
+    let kind = join.line_join;
     let id = join.id;
     let cp = c.positive;
     let cn = c.negative;
@@ -123,38 +123,20 @@ pub fn compute_join_side_positions(
     let bn = before.negative;
     let an = after.negative;
     let positive = if p.single {
-        tip_point(cp.normal, position, h)
+        tip_point(cp.normal, at, h)
     } else {
-        beyond(
-            p.inner,
-            bp.to,
-            ap.from,
-            cp.normal,
-            position,
-            h,
-            limit,
-            line_join,
-        )
+        beyond(p.inner, bp.to, ap.from, cp.normal, at, h, limit, kind)
     };
     let negative = if n.single {
-        tip_point(cn.normal, position, h)
+        tip_point(cn.normal, at, h)
     } else {
-        beyond(
-            n.inner,
-            bn.to,
-            an.from,
-            cn.normal,
-            position,
-            h,
-            limit,
-            line_join,
-        )
+        beyond(n.inner, bn.to, an.from, cn.normal, at, h, limit, kind)
     };
     EndpointData {
-        position: position,
+        position: at,
         half_width: h,
         advancement: join.advancement,
-        line_join: line_join,
+        line_join: kind,
         id: id,
         positive: positive,
         negative: negative,

@@ -1,5 +1,5 @@
 -- How much is written: five floats to a vertex, one vertex to a Single and two to a Pair. Assumes nothing.
-use Prim.Native.Nat.{ℕ, _*_}
+use Prim.Native.Nat.{_*_}
 use mathlib.Core.Path.{_≡_, refl}
 use lib.ListN.{length, length-append}
 use lib.Ieee.{Float}
@@ -11,7 +11,7 @@ use Rattle.endpoint.specs.declared.SidePoints.the-variants.{Single, Pair}
 use Rattle.endpoint.specs.declared.VertexId.{VertexId}
 use Rattle.vertices.specs.Vertex.{vertexOf, triangleOf}
 use Rattle.vertices.specs.Base.{baseVertexOf, sideVerticesOf}
-use Rattle.vertices.specs.Cap.{capVertexOf, capPairOf, capVerticesOf, capTrianglesOf}
+use Rattle.vertices.specs.Cap.{capVertexOf, capPairOf}
 
 pub length-base : (e : EndpointData) (x y : Float) → length (baseVertexOf e x y) ≡ 5
 unfolding baseVertexOf vertexOf
@@ -30,14 +30,6 @@ pub length-pair : (position : Point) (h a x : Float) → length (capPairOf posit
 unfolding capPairOf capVertexOf vertexOf
 length-pair position h a x = refl
 
-pub length-cap : (position : Point) (h a : Float) → length (capVerticesOf position h a) ≡ 20
-unfolding capVerticesOf capPairOf capVertexOf vertexOf
-length-cap position h a = refl
-
 pub length-triangle : (a b c : VertexId) → length (triangleOf a b c) ≡ 3
 unfolding triangleOf
 length-triangle a b c = refl
-
-pub length-cap-triangles : (a : VertexId) → length (capTrianglesOf a) ≡ 6
-unfolding capTrianglesOf triangleOf
-length-cap-triangles a = refl

@@ -6,7 +6,7 @@ use plane::vector::Point;
 use plane::vector::plus;
 use plane::vector::times;
 ghost use mathlib.Core.Path.{_≡_};
-ghost use Prim.Native.Nat.{_+_, _≤_, _<_};
+ghost use Prim.Native.Nat.{_+_, _≤_};
 ghost use lib.ListN.{length};
 ghost use Rattle.lists.specs.Over.{over};
 ghost use Rattle.vertices.specs.Cap.{capVertexOf, capPairOf, capVerticesOf, capTrianglesOf};

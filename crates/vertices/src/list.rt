@@ -2,7 +2,7 @@
 use endpoint::VertexId;
 use plane::vector::Point;
 ghost use mathlib.Core.Path.{_≡_};
-ghost use Prim.Native.Nat.{_+_, _≤_, _<_};
+ghost use Prim.Native.Nat.{_≤_, _<_};
 ghost use lib.ListN.{length};
 ghost use Rattle.lists.specs.Over.{over};
 ghost use Rattle.vertices.specs.Vertex.{vertexOf, triangleOf};
