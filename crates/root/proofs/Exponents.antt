@@ -11,7 +11,7 @@ use lib.Ieee.{binary32, ofBits}
 use lib.Ieee.Exact.{HasValue}
 use Rattle.root.specs.Compute.{exponent, operand}
 use Rattle.root.specs.Steps.{Operands, Scaled}
-use Rattle.root.proofs.Patterns.{Split, subnormal, normal}
+use Rattle.root.proofs.Patterns.{Split, split-is}
 
 -- ---- powers of two, gathered and spread
 gathered : (m a b c d : ℕ) → m * 2 ^ (a + b + c + (d + d)) ≡ m * 2 ^ a * 2 ^ b * 2 ^ c * (2 ^ d * 2 ^ d)
@@ -63,34 +63,24 @@ counted b m k P =
     let t = leading-top 32 m (P .pos) (lt-of-lt-of-le (P .small) (lit≤ tt)) in
     scaled m (leadingZeros 32 m) (t .0) (t .1) (t .2) (t .3) (P .small) b k (exponent m k) (P .value) (P .low) refl
 
-pub zeros-at-most : (m : ℕ) → 0 < m → m < 8388608 → leadingZeros 32 m ≤ 31
-zeros-at-most m p small = omega (arith, leading-top 32 m p (lt-of-lt-of-le small (lit≤ tt)) .1)
+-- ---- of the pattern b, whose exponent's field is one more than k, or 0
+module _ (b k : ℕ) (e : k ≡ b / 8388608 - 1) (pos : 0 < b) (finite : b < 2139095040) where
+  abbrev digits : ℕ
+  digits = b - k * 8388608
 
--- ---- the machine's shifts, which drop nothing
-shifted : (b t o g : ℕ) → Scaled b (t * 2 ^ o) g → Scaled b (t % 2 ^ 64 * 2 ^ o % 2 ^ 64) g
-shifted b t o g s =
-    let h = s .operands .high in
-    let t-fits : t < 2 ^ 64 = omega (arith, mul-le-mul-left t (pow-pos o)) in
-    let n-fits : t * 2 ^ o < 2 ^ 64 = omega arith in
-    rw (mod-eq-of-lt t-fits, mod-eq-of-lt n-fits) s
+  split : Split b digits k
+  split = rw e (split-is b pos finite)
 
-pub subnormal-scaled : (b : ℕ) → 0 < b → b < 8388608
-    → Scaled b (b * 2 ^ leadingZeros 32 b % 2 ^ 64 * 32768 % 2 ^ 64 * 2 ^ (exponent b 0 % 2) % 2 ^ 64) (exponent b 0 / 2)
-subnormal-scaled b p h =
-    let s = counted b b 0 (record { value = subnormal b h; pos = p; small = omega arith; low = omega arith }) in
-    let z = leadingZeros 32 b in
-    let o = exponent b 0 % 2 in
-    let l = s .operands .high in
-    let t-fits : b * 2 ^ z < 2 ^ 64 = omega (arith, mul-le-mul-left (b * 2 ^ z * 32768) (pow-pos o)) in
-    rw (mod-eq-of-lt t-fits) (shifted b (b * 2 ^ z * 32768) o (exponent b 0 / 2) s)
+  pub zeros-at-most : leadingZeros 32 digits ≤ 31
+  zeros-at-most = omega (arith, leading-top 32 digits (split .pos) (lt-of-lt-of-le (split .small) (lit≤ tt)) .1)
 
--- of a normal number's 24 digits the first has 8 zeros before it
-pub normal-scaled : (b : ℕ) → 8388608 ≤ b → b < 2139095040
-    → Scaled b ((b % 8388608 + 8388608) * 8388608 % 2 ^ 64 * 2 ^ ((b / 8388608 + 1) % 2) % 2 ^ 64) ((b / 8388608 + 125) / 2)
-normal-scaled b l h =
-    let m = b % 8388608 + 8388608 in
-    let v = b / 8388608 + 125 in
-    let e : v % 2 ≡ (b / 8388608 + 1) % 2 = omega arith in
-    let s = scaled m 8 23 refl (omega arith) (omega arith) (omega arith) b (b / 8388608 - 1) v (normal b l h) (omega arith) (omega arith) in
-    shifted b (m * 8388608) ((b / 8388608 + 1) % 2) (v / 2)
-    (subst (λ (o : ℕ). Scaled b (m * 8388608 * 2 ^ o) (v / 2)) e (subst (λ (t : ℕ). Scaled b (t * 2 ^ (v % 2)) (v / 2)) (mul-assoc m 256 32768) s))
+  -- the machine's shift, which drops nothing
+  pub pattern-scaled : Scaled b (digits * 2 ^ (leadingZeros 32 digits + 15 + exponent digits k % 2) % 2 ^ 64) (exponent digits k / 2)
+  pattern-scaled =
+      let z = leadingZeros 32 digits in
+      let o = exponent digits k % 2 in
+      let s = counted b digits k split in
+      let h = s .operands .high in
+      let same : digits * 2 ^ (z + 15 + o) ≡ operand digits k = rw (pow-add 2 (z + 15) o, pow-add 2 z 15) (omega arith) in
+      let fits : operand digits k < 2 ^ 64 = omega arith in
+      rw (same, mod-eq-of-lt fits) s

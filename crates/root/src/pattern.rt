@@ -1,6 +1,7 @@
 // From the bit pattern of a positive f32 to that of its root.
 use crate::whole::nearest;
-ghost use Prim.Native.Nat.{_≤_, _<_};
+ghost use mathlib.Core.Path.{_≡_};
+ghost use Prim.Native.Nat.{_-_, _/_, _<_};
 ghost use Rattle.root.specs.Steps.{Scaled, BitsRoot};
 
 pub const INFINITY: u32 = 0x7f80_0000;
@@ -12,42 +13,31 @@ struct Operand {
     g: u32,
 }
 
-// A subnormal is b units. Its first digit, wherever it stands, is moved to place 31, and then to
-// where an even exponent is left.
-fn subnormal(b: u32) -> Operand
-    requires { ⌜ (0 < b) × (b < 8388608) ⌝ }
-    ensures { λ r. ⌜ Scaled b (r .n) (r .g) ⌝ }
+// One less than the exponent's field. A field of 0, a subnormal's, counts as a field of 1.
+fn exponent_of(b: u32) -> u32
+    ensures { λ r. ⌜ r ≡ b / 8388608 - 1 ⌝ }
 {
-    let z = u32::leading_zeros(b);
-    let v = 134 - z;
-    let top = (b as u64) << z;
-    Operand {
-        n: (top << 15) << (v % 2),
-        g: v / 2,
+    let field = b >> 23;
+    if field == 0 {
+        return 0;
     }
+    field - 1
 }
 
-// The same for a significand of 24 digits: its leading zeros are 8, so they are not counted.
-fn normal(b: u32) -> Operand
-    requires { ⌜ (8388608 ≤ b) × (b < 2139095040) ⌝ }
-    ensures { λ r. ⌜ Scaled b (r .n) (r .g) ⌝ }
-{
-    let e = b >> 23;
-    let m = (b % 8388608 + 8388608) as u64;
-    Operand {
-        n: (m << 23) << ((e + 1) % 2),
-        g: (e + 125) / 2,
-    }
-}
-
+// The significand's first digit, wherever it stands, is moved to place 31, and then to where an even
+// exponent is left. Of a normal number it is the one that the field has more than its exponent.
 fn operand_of(b: u32) -> Operand
     requires { ⌜ (0 < b) × (b < 2139095040) ⌝ }
     ensures { λ r. ⌜ Scaled b (r .n) (r .g) ⌝ }
 {
-    if b < 8388608 {
-        return subnormal(b);
+    let k = exponent_of(b);
+    let m = b - k * 8388608;
+    let z = u32::leading_zeros(m);
+    let v = k + 134 - z;
+    Operand {
+        n: (m as u64) << (z + 15 + v % 2),
+        g: v / 2,
     }
-    normal(b)
 }
 
 // The root's pattern. Its significand's leading digit adds the one by which g is short of the
