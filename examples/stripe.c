@@ -1,4 +1,5 @@
-/* The program ./stripe in C over the library: path text on standard input; its mesh, or one refusal, on standard output. */
+/* The program ./stripe in C over the library: path text on standard input; its mesh, or one refusal, on standard output.
+   The exit status is 0 for a mesh, 1 for a refusal, and 2 where the input could not be read or the page not be written. */
 #include <stdio.h>
 #include <string.h>
 
@@ -24,6 +25,12 @@ static uint32_t bits(float x)
     return b;
 }
 
+static int failed(const char *what)
+{
+    fprintf(stderr, "stripe: %s\n", what);
+    return 2;
+}
+
 static void print_mesh(size_t vertex_count, size_t triangle_count)
 {
     printf("v %zu\n", vertex_count);
@@ -38,6 +45,8 @@ int main(void)
 {
     size_t answer[3];
     size_t length = fread(text, 1, TEXT_ROOM, stdin);
+    if (ferror(stdin))
+        return failed("the input could not be read");
     uint32_t number = stipeharbor_read(text, length, verbs, VERB_ROOM, coords, COORD_ROOM, answer, 3);
     if (number == STIPEHARBOR_ACCEPTED)
         number = stipeharbor_tessellate(verbs, answer[1], coords, answer[2], 2.0f, 4.0f, STIPEHARBOR_MITER, STIPEHARBOR_BUTT,
@@ -46,5 +55,7 @@ int main(void)
         print_mesh(answer[1], answer[2]);
     else
         printf("refused %u %zu\n", (unsigned)number, answer[0]);
-    return 0;
+    if (fflush(stdout) != 0 || ferror(stdout))
+        return failed("the page could not be written");
+    return number == STIPEHARBOR_ACCEPTED ? 0 : 1;
 }

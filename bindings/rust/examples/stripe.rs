@@ -1,8 +1,10 @@
 //! The program ./stripe in Rust over the library: path text on standard input; its mesh, or one
-//! refusal, on standard output.
+//! refusal, on standard output. The exit code is 0 for a mesh, 1 for a refusal, and 2 where the
+//! input could not be read or the page not be written.
 
 use std::fmt::Write as _;
 use std::io::{self, Read, Write};
+use std::process::ExitCode;
 use stipeharbor::{read, tessellate, Cap, Join, Options, Refusal, TEXT_LIMIT};
 
 const OPTIONS: Options = Options {
@@ -38,12 +40,31 @@ fn printed(vertices: &[f32], triangles: &[u16]) -> Result<String, std::fmt::Erro
     Ok(out)
 }
 
-fn main() -> io::Result<()> {
+/// The whole job; whether there was a mesh.
+fn run() -> Result<bool, String> {
     // One byte more than a text may have: what comes after it changes nothing.
     let mut text = Vec::new();
     io::stdin()
         .take(TEXT_LIMIT as u64 + 1)
-        .read_to_end(&mut text)?;
-    let out = drawn(&text).unwrap_or_else(|refusal| format!("{}\n", refusal));
-    io::stdout().write_all(out.as_bytes())
+        .read_to_end(&mut text)
+        .map_err(|error| format!("the input could not be read: {}", error))?;
+    let page = drawn(&text);
+    let meshed = page.is_ok();
+    let page = page.unwrap_or_else(|refusal| format!("{}\n", refusal));
+    let mut out = io::stdout();
+    out.write_all(page.as_bytes())
+        .and_then(|()| out.flush())
+        .map_err(|error| format!("the page could not be written: {}", error))?;
+    Ok(meshed)
+}
+
+fn main() -> ExitCode {
+    match run() {
+        Ok(true) => ExitCode::SUCCESS,
+        Ok(false) => ExitCode::from(1),
+        Err(what) => {
+            eprintln!("stripe: {}", what);
+            ExitCode::from(2)
+        }
+    }
 }
