@@ -153,7 +153,7 @@ module _ (write : Bool) (o : Stroke) (vs : List ℕ) (ps : List Endpoint) (v0 : 
     xs = endedOf g (getD vs i 0) ps
 
     rest : List (Run Endpoint)
-    rest = runsFrom (movedOf g (getD vs i 0) .size) (drop (i + 1) vs) (drop (movedOf g (getD vs i 0) .from) ps)
+    rest = runsFrom (movedOf g (getD vs i 0) .size) (drop (i + 1) vs) (drop (movedOf g (getD vs i 0) .first .0) ps)
 
     all-vertices : meshCount o (runsFrom 0 vs ps) ≡ d .vertices + (meshCount o xs + meshCount o rest)
     unfolding xs rest

@@ -9,6 +9,7 @@ use lib.Dec.{eqb}
 use lib.Ieee.{Float}
 use lib.ListN.{length, take, drop, getD, length-append, length-take, drop-of-length-le}
 use lib.Seq.{drop-drop, drop-cons}
+use Rattle.endpoint.specs.Endpoint.{endpointAfter}
 use Rattle.endpoint.specs.declared.Endpoint.{Endpoint}
 use Rattle.plane.specs.Normal.{pick}
 use Rattle.path.specs.Runs.{Run, runsFrom, pointsOf}
@@ -18,9 +19,9 @@ use Rattle.drive.specs.Passes.{Paired, Inside}
 use Rattle.drive.specs.declared.cursor.Cursor.{Cursor}
 
 pub record Passing (vs : List ℕ) (ps : List Endpoint) (i : ℕ) (g : Cursor) (done : List (Run Endpoint)) : Type 0 where
-  pub split : done ++ runsFrom (g .size) (drop i vs) (drop (g .from) ps) ≡ runsFrom 0 vs ps
-  pub points : g .from + g .size + pointCount (drop i vs) ≡ pointCount vs
-  pub few : length (pointsOf done) ≤ g .from
+  pub split : done ++ runsFrom (g .size) (drop i vs) (drop (g .first .0) ps) ≡ runsFrom 0 vs ps
+  pub points : g .first .0 + g .size + pointCount (drop i vs) ≡ pointCount vs
+  pub few : length (pointsOf done) ≤ g .first .0
 
 pub pass-none : (vs : List ℕ) (ps : List Endpoint) → Passing vs ps 0 startOf []
 unfolding pointsOf
@@ -28,31 +29,31 @@ pass-none vs ps = record { split = refl; points = omega arith; few = omega arith
 
 -- ---- one verb
 module _ (g : Cursor) (v : ℕ) (ps : List Endpoint) where
-  come-next : (vs : List ℕ) → runsFrom (g .size) (v ∷ vs) (drop (g .from) ps) ≡ endedOf g v ps ++ runsFrom (movedOf g v .size) vs (drop (movedOf g v .from) ps)
+  come-next : (vs : List ℕ) → runsFrom (g .size) (v ∷ vs) (drop (g .first .0) ps) ≡ endedOf g v ps ++ runsFrom (movedOf g v .size) vs (drop (movedOf g v .first .0) ps)
   unfolding runsFrom endedOf movedOf
   come-next vs = go (names v)
     where
-      go : (t : Bool) → pick t (runsFrom (g .size + 1) vs (drop (g .from) ps)) (record { closed = eqb v endClosed; points = take (g .size) (drop (g .from) ps) } ∷ runsFrom 0 vs (drop (g .size) (drop (g .from) ps)))
-          ≡ cond t [] (currentOf g v ps ∷ []) ++ runsFrom (cond {A = Cursor} t (record { from = g .from; size = g .size + 1 }) (record { from = g .from + g .size; size = 0 }) .size) vs (drop (cond {A = Cursor} t (record { from = g .from; size = g .size + 1 }) (record { from = g .from + g .size; size = 0 }) .from) ps)
+      go : (t : Bool) → pick t (runsFrom (g .size + 1) vs (drop (g .first .0) ps)) (record { closed = eqb v endClosed; points = take (g .size) (drop (g .first .0) ps) } ∷ runsFrom 0 vs (drop (g .size) (drop (g .first .0) ps)))
+          ≡ cond t [] (currentOf g v ps ∷ []) ++ runsFrom (cond {A = Cursor} t (record { first = g .first; size = g .size + 1 }) (record { first = endpointAfter (g .first) (g .size); size = 0 }) .size) vs (drop (cond {A = Cursor} t (record { first = g .first; size = g .size + 1 }) (record { first = endpointAfter (g .first) (g .size); size = 0 }) .first .0) ps)
       go true = refl
       go false = rw drop-drop
 
-  moved-points : movedOf g v .from + movedOf g v .size ≡ g .from + g .size + named v
+  moved-points : movedOf g v .first .0 + movedOf g v .size ≡ g .first .0 + g .size + named v
   unfolding movedOf named
   moved-points = go (names v)
     where
-      go : (t : Bool) → cond {A = Cursor} t (record { from = g .from; size = g .size + 1 }) (record { from = g .from + g .size; size = 0 }) .from + cond {A = Cursor} t (record { from = g .from; size = g .size + 1 }) (record { from = g .from + g .size; size = 0 }) .size ≡ g .from + g .size + pick t 1 0
+      go : (t : Bool) → cond {A = Cursor} t (record { first = g .first; size = g .size + 1 }) (record { first = endpointAfter (g .first) (g .size); size = 0 }) .first .0 + cond {A = Cursor} t (record { first = g .first; size = g .size + 1 }) (record { first = endpointAfter (g .first) (g .size); size = 0 }) .size ≡ g .first .0 + g .size + pick t 1 0
       go true = omega arith
       go false = omega arith
 
-  ended-few : g .from + length (pointsOf (endedOf g v ps)) ≤ movedOf g v .from
+  ended-few : g .first .0 + length (pointsOf (endedOf g v ps)) ≤ movedOf g v .first .0
   unfolding movedOf endedOf pointsOf
   ended-few = go (names v)
     where
-      one : length (take (g .size) (drop (g .from) ps) ++ []) ≤ g .size
+      one : length (take (g .size) (drop (g .first .0) ps) ++ []) ≤ g .size
       one = simp (length-append, length-take) (omega arith)
 
-      go : (t : Bool) → g .from + length (pointsOf (cond t [] (currentOf g v ps ∷ []))) ≤ cond {A = Cursor} t (record { from = g .from; size = g .size + 1 }) (record { from = g .from + g .size; size = 0 }) .from
+      go : (t : Bool) → g .first .0 + length (pointsOf (cond t [] (currentOf g v ps ∷ []))) ≤ cond {A = Cursor} t (record { first = g .first; size = g .size + 1 }) (record { first = endpointAfter (g .first) (g .size); size = 0 }) .first .0
       go true = omega arith
       go false = omega (arith, one)
 
@@ -71,7 +72,7 @@ verb-next vs i h = rw add-one (drop-cons vs i 0 h)
 module _ (vs : List ℕ) (ps : List Endpoint) (i : ℕ) (g : Cursor) (done : List (Run Endpoint)) (p : Passing vs ps i g done) where
   -- the runs that are done, those that the next verb ends, and the rest
   pub pass-split : i < length vs
-      → runsFrom 0 vs ps ≡ done ++ (endedOf g (getD vs i 0) ps ++ runsFrom (movedOf g (getD vs i 0) .size) (drop (i + 1) vs) (drop (movedOf g (getD vs i 0) .from) ps))
+      → runsFrom 0 vs ps ≡ done ++ (endedOf g (getD vs i 0) ps ++ runsFrom (movedOf g (getD vs i 0) .size) (drop (i + 1) vs) (drop (movedOf g (getD vs i 0) .first .0) ps))
   pass-split h = sym (p .split) ∙ ap (λ (l : List (Run Endpoint)). done ++ l) (rw (verb-next vs i h) (come-next g (getD vs i 0) ps (drop (i + 1) vs)))
 
   pub pass-turn : i < length vs → Passing vs ps (i + 1) (movedOf g (getD vs i 0)) (done ++ endedOf g (getD vs i 0) ps)
@@ -79,7 +80,7 @@ module _ (vs : List ℕ) (ps : List Endpoint) (i : ℕ) (g : Cursor) (done : Lis
       let v = getD vs i 0 in
       let c : pointCount (drop i vs) ≡ named v + pointCount (drop (i + 1) vs) = rw (verb-next vs i h) (count-cons v (drop (i + 1) vs)) in
       record {
-        split = append-assoc done (endedOf g v ps) (runsFrom (movedOf g v .size) (drop (i + 1) vs) (drop (movedOf g v .from) ps)) ∙ sym (pass-split h);
+        split = append-assoc done (endedOf g v ps) (runsFrom (movedOf g v .size) (drop (i + 1) vs) (drop (movedOf g v .first .0) ps)) ∙ sym (pass-split h);
         points = omega (arith, p .points, moved-points g v ps);
         few = omega (arith, points-append done (endedOf g v ps), p .few, ended-few g v ps);
       }

@@ -23,12 +23,12 @@ module _ (o : Stroke) where
   count-append [] ys = omega arith
   count-append (x ∷ xs) ys = omega (arith, count-append xs ys)
 
-  pub triangles-append : (k : ℕ) (xs ys : List (Run Endpoint)) → meshTriangles o k (xs ++ ys) ≡ meshTriangles o k xs ++ meshTriangles o (k + meshCount o xs) ys
+  pub triangles-append : (base : ℕ) (xs ys : List (Run Endpoint)) → meshTriangles o base (xs ++ ys) ≡ meshTriangles o base xs ++ meshTriangles o (base + meshCount o xs) ys
   unfolding meshTriangles meshCount
-  triangles-append k [] ys = let n : k + 0 ≡ k = omega arith in rw n
-  triangles-append k (x ∷ xs) ys =
-      let n : k + (shapeCount (drawnOf o x) + meshCount o xs) ≡ k + shapeCount (drawnOf o x) + meshCount o xs = omega arith in
-      rw (n, triangles-append (k + shapeCount (drawnOf o x)) xs ys, append-assoc)
+  triangles-append base [] ys = let n : base + 0 ≡ base = omega arith in rw n
+  triangles-append base (x ∷ xs) ys =
+      let n : base + (shapeCount (drawnOf o x) + meshCount o xs) ≡ base + shapeCount (drawnOf o x) + meshCount o xs = omega arith in
+      rw (n, triangles-append (base + shapeCount (drawnOf o x)) xs ys, append-assoc)
 
   -- five floats to a vertex
   pub length-vertices : (rs : List (Run Endpoint)) → length (meshVertices o rs) ≡ 5 * meshCount o rs
@@ -37,12 +37,12 @@ module _ (o : Stroke) where
   length-vertices (r ∷ rs) = rw (length-append, length-shape, length-vertices rs) (omega arith)
 
   -- how many triangles there are does not hang on the number that the vertices begin with
-  pub triangles-anywhere : (k : ℕ) (rs : List (Run Endpoint)) → length (meshTriangles o k rs) ≡ length (meshTriangles o 0 rs)
+  pub triangles-anywhere : (base : ℕ) (rs : List (Run Endpoint)) → length (meshTriangles o base rs) ≡ length (meshTriangles o 0 rs)
   unfolding meshTriangles
-  triangles-anywhere k [] = refl
-  triangles-anywhere k (r ∷ rs) =
+  triangles-anywhere base [] = refl
+  triangles-anywhere base (r ∷ rs) =
       let s = drawnOf o r in
-      simp length-append (omega (arith, run-anywhere o (r .closed) k (r .points), triangles-anywhere (k + shapeCount s) rs, triangles-anywhere (0 + shapeCount s) rs))
+      simp length-append (omega (arith, run-anywhere o (r .closed) base (r .points), triangles-anywhere (base + shapeCount s) rs, triangles-anywhere (0 + shapeCount s) rs))
 
 -- ---- bounds, in one place: four vertices to a point, no more triangles than vertices
 pub record Bounded (n : ℕ) (c : Count) : Type 0 where
@@ -55,8 +55,8 @@ runs-bounded o [] = record { vertices = omega arith; triangles = omega arith }
 runs-bounded o (r ∷ rs) =
     let b = runs-bounded o rs in
     let w = run-within o (r .closed) 0 (r .points) in
-    let k = 0 + shapeCount (drawnOf o r) in
+    let base = 0 + shapeCount (drawnOf o r) in
     record {
       vertices = simp length-append (omega (arith, b .vertices, w .vertices));
-      triangles = simp length-append (omega (arith, b .triangles, w .triangles, triangles-anywhere o k rs));
+      triangles = simp length-append (omega (arith, b .triangles, w .triangles, triangles-anywhere o base rs));
     }

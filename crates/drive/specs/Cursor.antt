@@ -4,20 +4,21 @@ use mathlib.Core.Bool.{cond}
 use mathlib.Core.List.{List, [], _∷_}
 use lib.Dec.{eqb}
 use lib.ListN.{take, drop}
+use Rattle.endpoint.specs.Endpoint.{endpointAfter}
 use Rattle.endpoint.specs.declared.Endpoint.{Endpoint}
 use Rattle.path.specs.Runs.{Run}
 use Rattle.path.specs.Verbs.{endClosed, names}
 use Rattle.drive.specs.declared.cursor.Cursor.{Cursor}
 
 abbrev pub startOf : Cursor
-startOf = record { from = 0; size = 0 }
+startOf = record { first = record { 0 = 0 }; size = 0 }
 
 unfoldable pub movedOf : Cursor → ℕ → Cursor
-movedOf g verb = cond (names verb) (record { from = g .from; size = g .size + 1 }) (record { from = g .from + g .size; size = 0 })
+movedOf g verb = cond (names verb) (record { first = g .first; size = g .size + 1 }) (record { first = endpointAfter (g .first) (g .size); size = 0 })
 
 -- the run that is current
 abbrev pub currentOf : Cursor → ℕ → List Endpoint → Run Endpoint
-currentOf g verb ps = record { closed = eqb verb endClosed; points = take (g .size) (drop (g .from) ps) }
+currentOf g verb ps = record { closed = eqb verb endClosed; points = take (g .size) (drop (g .first .0) ps) }
 
 -- the runs that a verb ends: none where it names a point, else the current one
 unfoldable pub endedOf : Cursor → ℕ → List Endpoint → List (Run Endpoint)

@@ -22,7 +22,7 @@ pub record Paired (verbs : List ℕ) (coords : List Float) : Type 0 where
 
 -- the current run lies within the coordinates
 pub record Inside (g : Cursor) (coords : List Float) : Type 0 where
-  pub end : 2 * (g .from + g .size) ≤ length coords
+  pub end : 2 * (g .first .0 + g .size) ≤ length coords
   pub few : length coords ≤ 8192
 
 abbrev pub undrawn : Drawn

@@ -32,8 +32,8 @@ meshCount o (r ∷ rs) = shapeCount (drawnOf o r) + meshCount o rs
 
 -- rule 9: "Vertex numbers go on over all runs, and each run is written to the part of the lists that begins where the last run ended."
 unfoldable pub meshTriangles : Stroke → ℕ → List (Run Endpoint) → List Tri
-meshTriangles o k [] = []
-meshTriangles o k (r ∷ rs) = shapeTriangles (r .closed) k (drawnOf o r) ++ meshTriangles o (k + shapeCount (drawnOf o r)) rs
+meshTriangles o base [] = []
+meshTriangles o base (r ∷ rs) = shapeTriangles (r .closed) base (drawnOf o r) ++ meshTriangles o (base + shapeCount (drawnOf o r)) rs
 
 -- "the kept edges of all runs, closing ones included"
 unfoldable pub meshEdges : Stroke → List (Run Endpoint) → List Leg

@@ -2,6 +2,7 @@
 use crate::cursor::Cursor;
 use crate::cursor::moved;
 use crate::cursor::start;
+use endpoint::VertexId;
 use path::options::Stroke;
 use path::verbs::END_CLOSED;
 use path::verbs::names_point;
@@ -44,8 +45,10 @@ fn draw_verb(
     if names_point(verb) {
         return d;
     }
-    let from = 2 * g.from;
-    let to = 2 * (g.from + g.size);
+    let first = g.first;
+    let i = first.0 as usize;
+    let from = 2 * i;
+    let to = 2 * (i + g.size);
     let at = place_of(write, 5 * n);
     let on = place_of(write, 3 * m);
     let run = draw_run(
@@ -53,9 +56,9 @@ fn draw_verb(
         &mut t[on..],
         o,
         &coords[from..to],
-        g.from as u32,
+        first,
         verb == END_CLOSED,
-        n,
+        VertexId(n as u32),
         write,
     );
     Drawn {

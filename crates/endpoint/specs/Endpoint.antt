@@ -1,17 +1,26 @@
 -- What an endpoint's parts mean. Assumes nothing.
-use Prim.Native.Nat.{ℕ}
+use Prim.Native.Nat.{ℕ, _+_}
 use mathlib.Core.Bool.{false}
 use lib.Ieee.{Float, neg}
 use Rattle.plane.specs.F32.{f32}
 use Rattle.plane.specs.Vector.{point}
 use Rattle.plane.specs.declared.vector.Point.{Point}
 use Rattle.endpoint.specs.declared.EndpointData.{EndpointData}
+use Rattle.endpoint.specs.declared.EndpointId.{EndpointId}
 use Rattle.endpoint.specs.declared.InnerJoin.the-variants.{Neither}
 use Rattle.endpoint.specs.declared.LineJoin.the-variants.{Miter}
 use Rattle.endpoint.specs.declared.Side.{Side}
 use Rattle.endpoint.specs.declared.Side.the-variants.{Positive, Negative}
 use Rattle.endpoint.specs.declared.SidePoints.{SidePoints}
 use Rattle.endpoint.specs.declared.SidePoints.the-variants.{Single, Pair}
+use Rattle.endpoint.specs.declared.VertexId.{VertexId}
+
+-- "An endpoint number and a vertex number are counted apart": n behind another
+abbrev pub endpointAfter : EndpointId → ℕ → EndpointId
+endpointAfter first n = record { 0 = first .0 + n }
+
+abbrev pub vertexAfter : VertexId → ℕ → VertexId
+vertexAfter base n = record { 0 = base .0 + n }
 
 -- "an endpoint of zeros, Miter, both sides Single, no fold"
 abbrev pub blankOf : EndpointData

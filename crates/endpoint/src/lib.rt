@@ -1,12 +1,28 @@
 // Endpoints as the joins see them: lyon's `EndpointData`, with what is optional there in cases.
 use plane::vector::Point;
 ghost use mathlib.Core.Path.{_≡_};
-ghost use Rattle.endpoint.specs.Endpoint.{blankOf, signOf, singleOf, pairOf, sideCountOf};
+ghost use Prim.Native.Nat.{_+_, _<_};
+ghost use Rattle.endpoint.specs.Endpoint.{endpointAfter, vertexAfter, blankOf, signOf, singleOf, pairOf, sideCountOf};
 
 // Endpoints and vertices are counted apart.
 pub struct EndpointId(pub u32);
 
 pub struct VertexId(pub u32);
+
+// The endpoint that comes n behind another, and the vertex that does.
+pub fn endpoint_after(first: EndpointId, n: usize) -> EndpointId
+    requires { ⌜ first .0 + n < 65536 ⌝ }
+    ensures { λ r. ⌜ r ≡ endpointAfter first n ⌝ }
+{
+    EndpointId(first.0 + n as u32)
+}
+
+pub fn vertex_after(base: VertexId, n: usize) -> VertexId
+    requires { ⌜ base .0 + n < 65536 ⌝ }
+    ensures { λ r. ⌜ r ≡ vertexAfter base n ⌝ }
+{
+    VertexId(base.0 + n as u32)
+}
 
 // A begin's or a line's point with its number.
 pub struct Endpoint {

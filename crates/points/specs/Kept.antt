@@ -11,21 +11,21 @@ use Rattle.points.specs.Points.{endpointsOf, endpointAt}
 use Rattle.points.specs.declared.Look.{Look}
 
 -- the points from 1 up to r are near p0, and r is not or is the number of points
-pub record FirstFar (p : List Float) (k r : ℕ) : Type 0 where
+pub record FirstFar (p : List Float) (first r : ℕ) : Type 0 where
   pub least : 1 ≤ r
   pub within : r ≤ length p / 2
-  pub kept : keptBehind (endpointAt p k 0) (drop 1 (endpointsOf k p)) ≡ keptBehind (endpointAt p k 0) (drop r (endpointsOf k p))
-  pub far : r < length p / 2 → near (endpointAt p k 0) (endpointAt p k r) ≡ false
+  pub kept : keptBehind (endpointAt p first 0) (drop 1 (endpointsOf first p)) ≡ keptBehind (endpointAt p first 0) (drop r (endpointsOf first p))
+  pub far : r < length p / 2 → near (endpointAt p first 0) (endpointAt p first r) ≡ false
 
 unfoldable pub lookedOf : Look → Endpoint → Endpoint → ℕ → Look
 lookedOf l p0 c i = cond (near (l .last) c) l (record { last = c; end = cond (near p0 c) (l .end) (i + 1) })
 
 -- a closed run keeps what an open run of its first r points keeps
-pub record Ended (p : List Float) (k r : ℕ) : Type 0 where
+pub record Ended (p : List Float) (first r : ℕ) : Type 0 where
   pub least : 1 ≤ r
   pub within : r ≤ length p / 2
-  pub trim : trimmed (endpointAt p k 0) (keptBehind (endpointAt p k 0) (drop 1 (endpointsOf k p))) ≡ keptBehind (endpointAt p k 0) (take (r - 1) (drop 1 (endpointsOf k p)))
+  pub trim : trimmed (endpointAt p first 0) (keptBehind (endpointAt p first 0) (drop 1 (endpointsOf first p))) ≡ keptBehind (endpointAt p first 0) (take (r - 1) (drop 1 (endpointsOf first p)))
 
 -- the kept points where the second is at i, and none is dropped on closing
 abbrev pub runFrom : List Float → ℕ → ℕ → List Endpoint
-runFrom p k i = endpointAt p k 0 ∷ endpointAt p k i ∷ keptBehind (endpointAt p k i) (drop (i + 1) (endpointsOf k p))
+runFrom p first i = endpointAt p first 0 ∷ endpointAt p first i ∷ keptBehind (endpointAt p first i) (drop (i + 1) (endpointsOf first p))

@@ -48,30 +48,30 @@ shapeVertices o nothing = []
 shapeVertices o (emptyCap p) = capVerticesOf (p .position) (o .«half_width») (f32 0)
 shapeVertices o (along js) = verticesOf js
 
--- its triangles, where its vertices are numbered from k
+-- its triangles, where its vertices are numbered from base
 unfoldable pub shapeTriangles : Bool → ℕ → Shape → List Tri
-shapeTriangles closed k nothing = []
-shapeTriangles closed k (emptyCap p) = record { a = k; b = k + 1; c = k + 2 } ∷ record { a = k; b = k + 2; c = k + 3 } ∷ []
-shapeTriangles closed k (along js) = trianglesOf closed k js
+shapeTriangles closed base nothing = []
+shapeTriangles closed base (emptyCap p) = record { a = base; b = base + 1; c = base + 2 } ∷ record { a = base; b = base + 2; c = base + 3 } ∷ []
+shapeTriangles closed base (along js) = trianglesOf closed base js
 
--- v and t have room for a shape whose vertices are numbered from k
-pub record Room (closed : Bool) (k : ℕ) (s : Shape) (v : List Float) (t : List ℕ) : Type 0 where
+-- v and t have room for a shape whose vertices are numbered from base
+pub record Room (closed : Bool) (base : ℕ) (s : Shape) (v : List Float) (t : List ℕ) : Type 0 where
   pub vertices : 5 * shapeCount s ≤ length v
-  pub triangles : 3 * length (shapeTriangles closed k s) ≤ length t
+  pub triangles : 3 * length (shapeTriangles closed base s) ≤ length t
 
 -- it is drawn at the start of v and t
-pub record Drawing (o : Stroke) (closed : Bool) (k : ℕ) (s : Shape) (v v' : List Float) (t t' : List ℕ) : Type 0 where
+pub record Drawing (o : Stroke) (closed : Bool) (base : ℕ) (s : Shape) (v v' : List Float) (t t' : List ℕ) : Type 0 where
   pub vertices : v' ≡ over (shapeVertices o s) v
-  pub triangles : t' ≡ over (flatT (shapeTriangles closed k s)) t
+  pub triangles : t' ≡ over (flatT (shapeTriangles closed base s)) t
 
 -- what a pass over it needs: a u16 holds its numbers, and where the pass writes there is room
-pub record Place (write closed : Bool) (k : ℕ) (s : Shape) (v : List Float) (t : List ℕ) : Type 0 where
-  pub numbers : k + shapeCount s < 65536
-  pub faces : length (shapeTriangles closed k s) < 65536
-  pub room : write ≡ true → Room closed k s v t
+pub record Place (write closed : Bool) (base : ℕ) (s : Shape) (v : List Float) (t : List ℕ) : Type 0 where
+  pub numbers : base + shapeCount s < 65536
+  pub faces : length (shapeTriangles closed base s) < 65536
+  pub room : write ≡ true → Room closed base s v t
 
 -- what the pass does: it has counted n vertices and m triangles and, where it writes, written them
-pub record Draws (write : Bool) (o : Stroke) (closed : Bool) (k : ℕ) (s : Shape) (v v' : List Float) (t t' : List ℕ) (n m : ℕ) : Type 0 where
+pub record Draws (write : Bool) (o : Stroke) (closed : Bool) (base : ℕ) (s : Shape) (v v' : List Float) (t t' : List ℕ) (n m : ℕ) : Type 0 where
   pub count : n ≡ shapeCount s
-  pub faces : m ≡ length (shapeTriangles closed k s)
-  pub drawing : write ≡ true → Drawing o closed k s v v' t t'
+  pub faces : m ≡ length (shapeTriangles closed base s)
+  pub drawing : write ≡ true → Drawing o closed base s v v' t t'

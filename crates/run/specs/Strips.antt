@@ -18,11 +18,11 @@ use Rattle.strip.specs.Triangle.{flatT, between}
 use Rattle.strip.specs.declared.Strip.{Strip}
 use Rattle.walk.specs.declared.Walk.{Walk}
 
--- a run's coordinates p, the number k of its first endpoint and the index i of a point, within the limits of an accepted path
-pub record Within (p : List Float) (k i : ℕ) : Type 0 where
+-- a run's coordinates p, the number of its first endpoint and the index i of a point, within the limits of an accepted path
+pub record Within (p : List Float) (first i : ℕ) : Type 0 where
   pub point : 2 * i + 2 ≤ length p
   pub short : length p ≤ 8192
-  pub few : k ≤ 4096
+  pub few : first ≤ 4096
 
 -- the start cap of a leg is passed
 pub record Begins (write : Bool) (o : Stroke) (l : Leg) (base : ℕ) (v v' : List Float) (t t' : List ℕ) (r : Walk) : Type 0 where

@@ -2,6 +2,7 @@
 use crate::strips::write_open;
 use crate::strips::write_round;
 use endpoint::Endpoint;
+use endpoint::EndpointId;
 use endpoint::VertexId;
 use path::options::Stroke;
 use points::endpoint_at;
@@ -33,16 +34,16 @@ fn draw_open(
     t: &mut [u16],
     o: Stroke,
     p: &[f32],
-    k: u32,
+    first: EndpointId,
     i: usize,
-    base: usize,
+    base: VertexId,
     write: bool,
 ) -> Drawn
-    requires { ⌜ Within (now p) k i ⌝ }
-    requires { ⌜ Place write false base (along (jointsOf false o (runFrom (now p) k i))) (now v) (now t) ⌝ }
-    ensures { λ r. ⌜ Draws write o false base (along (jointsOf false o (runFrom (now (p .entry)) k i))) (now (v .entry)) (now (v .exit)) (now (t .entry)) (now (t .exit)) (r .vertices) (r .triangles) ⌝ }
+    requires { ⌜ Within (now p) (first .0) i ⌝ }
+    requires { ⌜ Place write false (base .0) (along (jointsOf false o (runFrom (now p) (first .0) i))) (now v) (now t) ⌝ }
+    ensures { λ r. ⌜ Draws write o false (base .0) (along (jointsOf false o (runFrom (now (p .entry)) (first .0) i))) (now (v .entry)) (now (v .exit)) (now (t .entry)) (now (t .exit)) (r .vertices) (r .triangles) ⌝ }
 {
-    let s = write_open(v, t, o, p, k, i, base, write);
+    let s = write_open(v, t, o, p, first, i, base, write);
     Drawn {
         vertices: s.vertices,
         triangles: s.triangles,
@@ -66,16 +67,16 @@ fn draw_closed(
     t: &mut [u16],
     o: Stroke,
     p: &[f32],
-    k: u32,
+    first: EndpointId,
     i: usize,
-    base: usize,
+    base: VertexId,
     write: bool,
 ) -> Drawn
-    requires { ⌜ Within (now p) k i ⌝ }
-    requires { ⌜ Place write true base (along (jointsOf true o (runFrom (now p) k i))) (now v) (now t) ⌝ }
-    ensures { λ r. ⌜ Draws write o true base (along (jointsOf true o (runFrom (now (p .entry)) k i))) (now (v .entry)) (now (v .exit)) (now (t .entry)) (now (t .exit)) (r .vertices) (r .triangles) ⌝ }
+    requires { ⌜ Within (now p) (first .0) i ⌝ }
+    requires { ⌜ Place write true (base .0) (along (jointsOf true o (runFrom (now p) (first .0) i))) (now v) (now t) ⌝ }
+    ensures { λ r. ⌜ Draws write o true (base .0) (along (jointsOf true o (runFrom (now (p .entry)) (first .0) i))) (now (v .entry)) (now (v .exit)) (now (t .entry)) (now (t .exit)) (r .vertices) (r .triangles) ⌝ }
 {
-    let s = write_round(v, t, o, p, k, i, base, write);
+    let s = write_round(v, t, o, p, first, i, base, write);
     close_round(t, s, write);
     Drawn {
         vertices: s.vertices,
@@ -94,12 +95,12 @@ pub fn draws_cap(o: Stroke, closed: bool, lines: bool) -> bool
 }
 
 // The empty cap at a point, where the pass writes.
-fn lay_empty_cap(v: &mut [f32], t: &mut [u16], o: Stroke, p: Endpoint, base: usize, write: bool)
-    requires { ⌜ Place write false base (emptyCap p) (now v) (now t) ⌝ }
-    ensures { λ _. ⌜ (write ≡ true → Drawing o false base (emptyCap p) (now (v .entry)) (now (v .exit)) (now (t .entry)) (now (t .exit))) ⌝ }
+fn lay_empty_cap(v: &mut [f32], t: &mut [u16], o: Stroke, p: Endpoint, base: VertexId, write: bool)
+    requires { ⌜ Place write false (base .0) (emptyCap p) (now v) (now t) ⌝ }
+    ensures { λ _. ⌜ (write ≡ true → Drawing o false (base .0) (emptyCap p) (now (v .entry)) (now (v .exit)) (now (t .entry)) (now (t .exit))) ⌝ }
 {
     if write {
-        tessellate_empty_square_cap(v, t, VertexId(base as u32), p.position, o.half_width, 0.0);
+        tessellate_empty_square_cap(v, t, base, p.position, o.half_width, 0.0);
     }
 }
 
@@ -111,11 +112,11 @@ fn draw_alone(
     p: Endpoint,
     closed: bool,
     lines: bool,
-    base: usize,
+    base: VertexId,
     write: bool,
 ) -> Drawn
-    requires { ⌜ Place write closed base (shapeOfKept o closed lines (p ∷ [])) (now v) (now t) ⌝ }
-    ensures { λ r. ⌜ Draws write o closed base (shapeOfKept o closed lines (p ∷ [])) (now (v .entry)) (now (v .exit)) (now (t .entry)) (now (t .exit)) (r .vertices) (r .triangles) ⌝ }
+    requires { ⌜ Place write closed (base .0) (shapeOfKept o closed lines (p ∷ [])) (now v) (now t) ⌝ }
+    ensures { λ r. ⌜ Draws write o closed (base .0) (shapeOfKept o closed lines (p ∷ [])) (now (v .entry)) (now (v .exit)) (now (t .entry)) (now (t .exit)) (r .vertices) (r .triangles) ⌝ }
 {
     if draws_cap(o, closed, lines) {
         lay_empty_cap(v, t, o, p, base, write);
@@ -136,41 +137,50 @@ fn draw_kept(
     t: &mut [u16],
     o: Stroke,
     p: &[f32],
-    k: u32,
+    first: EndpointId,
     closed: bool,
     lines: bool,
-    base: usize,
+    base: VertexId,
     write: bool,
 ) -> Drawn
-    requires { ⌜ (2 ≤ length (now p)) × (length (now p) ≤ 8192) × (k ≤ 4096) ⌝ }
-    requires { ⌜ Place write closed base (shapeOfKept o closed lines (keptPoints false (endpointsOf k (now p)))) (now v) (now t) ⌝ }
-    ensures { λ r. ⌜ Draws write o closed base (shapeOfKept o closed lines (keptPoints false (endpointsOf k (now (p .entry))))) (now (v .entry)) (now (v .exit)) (now (t .entry)) (now (t .exit)) (r .vertices) (r .triangles) ⌝ }
+    requires { ⌜ (2 ≤ length (now p)) × (length (now p) ≤ 8192) × (first .0 ≤ 4096) ⌝ }
+    requires { ⌜ Place write closed (base .0) (shapeOfKept o closed lines (keptPoints false (endpointsOf (first .0) (now p)))) (now v) (now t) ⌝ }
+    ensures { λ r. ⌜ Draws write o closed (base .0) (shapeOfKept o closed lines (keptPoints false (endpointsOf (first .0) (now (p .entry))))) (now (v .entry)) (now (v .exit)) (now (t .entry)) (now (t .exit)) (r .vertices) (r .triangles) ⌝ }
 {
-    let i = first_far(p, k);
+    let i = first_far(p, first);
     if p.len() / 2 <= i {
-        return draw_alone(v, t, o, endpoint_at(p, k, 0), closed, lines, base, write);
+        return draw_alone(
+            v,
+            t,
+            o,
+            endpoint_at(p, first, 0),
+            closed,
+            lines,
+            base,
+            write,
+        );
     }
     if closed {
-        return draw_closed(v, t, o, p, k, i, base, write);
+        return draw_closed(v, t, o, p, first, i, base, write);
     }
-    draw_open(v, t, o, p, k, i, base, write)
+    draw_open(v, t, o, p, first, i, base, write)
 }
 
-// A run whose coordinates are p and whose first endpoint has the number k; its vertices are numbered
+// A run whose coordinates are p and whose endpoints are numbered from first; its vertices are numbered
 // from base.
 pub fn draw_run(
     v: &mut [f32],
     t: &mut [u16],
     o: Stroke,
     p: &[f32],
-    k: u32,
+    first: EndpointId,
     closed: bool,
-    base: usize,
+    base: VertexId,
     write: bool,
 ) -> Drawn
-    requires { ⌜ (length (now p) ≤ 8192) × (k ≤ 4096) ⌝ }
-    requires { ⌜ Place write closed base (shapeOf o closed (endpointsOf k (now p))) (now v) (now t) ⌝ }
-    ensures { λ r. ⌜ Draws write o closed base (shapeOf o closed (endpointsOf k (now (p .entry)))) (now (v .entry)) (now (v .exit)) (now (t .entry)) (now (t .exit)) (r .vertices) (r .triangles) ⌝ }
+    requires { ⌜ (length (now p) ≤ 8192) × (first .0 ≤ 4096) ⌝ }
+    requires { ⌜ Place write closed (base .0) (shapeOf o closed (endpointsOf (first .0) (now p))) (now v) (now t) ⌝ }
+    ensures { λ r. ⌜ Draws write o closed (base .0) (shapeOf o closed (endpointsOf (first .0) (now (p .entry)))) (now (v .entry)) (now (v .exit)) (now (t .entry)) (now (t .exit)) (r .vertices) (r .triangles) ⌝ }
 {
     if p.len() < 2 {
         return Drawn {
@@ -180,8 +190,8 @@ pub fn draw_run(
     }
     let lines = 1 < p.len() / 2;
     if closed {
-        let to = 2 * kept_end(p, k);
-        return draw_kept(v, t, o, &p[..to], k, true, lines, base, write);
+        let to = 2 * kept_end(p, first);
+        return draw_kept(v, t, o, &p[..to], first, true, lines, base, write);
     }
-    draw_kept(v, t, o, p, k, false, lines, base, write)
+    draw_kept(v, t, o, p, first, false, lines, base, write)
 }

@@ -1,9 +1,12 @@
 // The strip along a run of two kept points or more. The second kept point stands at i, and none is
-// dropped on closing; k is the number of the run's first endpoint, base that of its first vertex.
+// dropped on closing; first is the number of the run's first endpoint, base that of its first vertex.
 use course::joint::end_cap;
 use course::joint::start_cap;
 use course::leg::Leg;
 use endpoint::EndpointData;
+use endpoint::EndpointId;
+use endpoint::VertexId;
+use endpoint::endpoint_after;
 use path::options::Stroke;
 use points::first_leg;
 use strip::Strip;
@@ -32,9 +35,9 @@ fn put_cap(v: &mut [f32], t: &mut [u16], s: Strip, j: EndpointData, write: bool)
 }
 
 // The start cap.
-fn begin(v: &mut [f32], t: &mut [u16], o: Stroke, leg: Leg, base: usize, write: bool) -> Walk
-    requires { ⌜ Has write (startOf base) (startCapOf o leg ∷ []) (now v) (now t) ⌝ }
-    ensures { λ r. ⌜ Begins write o leg base (now (v .entry)) (now (v .exit)) (now (t .entry)) (now (t .exit)) r ⌝ }
+fn begin(v: &mut [f32], t: &mut [u16], o: Stroke, leg: Leg, base: VertexId, write: bool) -> Walk
+    requires { ⌜ Has write (startOf (base .0)) (startCapOf o leg ∷ []) (now v) (now t) ⌝ }
+    ensures { λ r. ⌜ Begins write o leg (base .0) (now (v .entry)) (now (v .exit)) (now (t .entry)) (now (t .exit)) r ⌝ }
 {
     let j = start_cap(o, leg);
     let s = start(base);
@@ -60,18 +63,18 @@ pub fn write_open(
     t: &mut [u16],
     o: Stroke,
     p: &[f32],
-    k: u32,
+    first: EndpointId,
     i: usize,
-    base: usize,
+    base: VertexId,
     write: bool,
 ) -> Strip
-    requires { ⌜ Within (now p) k i ⌝ }
-    requires { ⌜ Has write (startOf base) (jointsOf false o (runFrom (now p) k i)) (now v) (now t) ⌝ }
-    ensures { λ r. ⌜ Puts write (jointsOf false o (runFrom (now (p .entry)) k i)) (startOf base) (now (v .entry)) (now (v .exit)) (now (t .entry)) (now (t .exit)) r ⌝ }
+    requires { ⌜ Within (now p) (first .0) i ⌝ }
+    requires { ⌜ Has write (startOf (base .0)) (jointsOf false o (runFrom (now p) (first .0) i)) (now v) (now t) ⌝ }
+    ensures { λ r. ⌜ Puts write (jointsOf false o (runFrom (now (p .entry)) (first .0) i)) (startOf (base .0)) (now (v .entry)) (now (v .exit)) (now (t .entry)) (now (t .exit)) r ⌝ }
 {
-    let leg = first_leg(o.half_width, p, k, i);
+    let leg = first_leg(o.half_width, p, first, i);
     let begun = begin(v, t, o, leg, base, write);
-    let w = visit_all(v, t, o, begun, p, k, i + 1, false, write);
+    let w = visit_all(v, t, o, begun, p, first, i + 1, false, write);
     finish(v, t, o, w, write)
 }
 
@@ -82,15 +85,15 @@ fn go_round(
     o: Stroke,
     w: Walk,
     p: &[f32],
-    k: u32,
+    first: EndpointId,
     i: usize,
     write: bool,
 ) -> Strip
-    requires { ⌜ Within (now p) k i ⌝ }
-    requires { ⌜ Has write (w .strip) (roundOf o (w .leg) (endpointAt (now p) k 0) (endpointAt (now p) k i)) (now v) (now t) ⌝ }
-    ensures { λ r. ⌜ Puts write (roundOf o (w .leg) (endpointAt (now (p .entry)) k 0) (endpointAt (now (p .entry)) k i)) (w .strip) (now (v .entry)) (now (v .exit)) (now (t .entry)) (now (t .exit)) r ⌝ }
+    requires { ⌜ Within (now p) (first .0) i ⌝ }
+    requires { ⌜ Has write (w .strip) (roundOf o (w .leg) (endpointAt (now p) (first .0) 0) (endpointAt (now p) (first .0) i)) (now v) (now t) ⌝ }
+    ensures { λ r. ⌜ Puts write (roundOf o (w .leg) (endpointAt (now (p .entry)) (first .0) 0) (endpointAt (now (p .entry)) (first .0) i)) (w .strip) (now (v .entry)) (now (v .exit)) (now (t .entry)) (now (t .exit)) r ⌝ }
 {
-    let home = visit_all(v, t, o, w, &p[..2], k, 0, true, write);
+    let home = visit_all(v, t, o, w, &p[..2], first, 0, true, write);
     let from = 2 * i;
     let on = visit_all(
         v,
@@ -98,7 +101,7 @@ fn go_round(
         o,
         home,
         &p[from..from + 2],
-        k + i as u32,
+        endpoint_after(first, i),
         0,
         true,
         write,
@@ -112,20 +115,20 @@ pub fn write_round(
     t: &mut [u16],
     o: Stroke,
     p: &[f32],
-    k: u32,
+    first: EndpointId,
     i: usize,
-    base: usize,
+    base: VertexId,
     write: bool,
 ) -> Strip
-    requires { ⌜ Within (now p) k i ⌝ }
-    requires { ⌜ Has write (startOf base) (jointsOf true o (runFrom (now p) k i)) (now v) (now t) ⌝ }
-    ensures { λ r. ⌜ Puts write (jointsOf true o (runFrom (now (p .entry)) k i)) (startOf base) (now (v .entry)) (now (v .exit)) (now (t .entry)) (now (t .exit)) r ⌝ }
+    requires { ⌜ Within (now p) (first .0) i ⌝ }
+    requires { ⌜ Has write (startOf (base .0)) (jointsOf true o (runFrom (now p) (first .0) i)) (now v) (now t) ⌝ }
+    ensures { λ r. ⌜ Puts write (jointsOf true o (runFrom (now (p .entry)) (first .0) i)) (startOf (base .0)) (now (v .entry)) (now (v .exit)) (now (t .entry)) (now (t .exit)) r ⌝ }
 {
-    let leg = first_leg(o.half_width, p, k, i);
+    let leg = first_leg(o.half_width, p, first, i);
     let begun = Walk {
         leg: leg,
         strip: start(base),
     };
-    let w = visit_all(v, t, o, begun, p, k, i + 1, false, write);
-    go_round(v, t, o, w, p, k, i, write)
+    let w = visit_all(v, t, o, begun, p, first, i + 1, false, write);
+    go_round(v, t, o, w, p, first, i, write)
 }

@@ -24,29 +24,29 @@ to-new : (s : Section) (m q : ℕ) → s .negative .0 ≢ s .positive .0 → s .
     → length (between s (sectionOf m q)) ≡ 2
 to-new s m q f g h i j = rw (between-both (s .negative .0) (s .positive .0) m q f g h i j, length-ladder)
 
-within : (k : ℕ) (j : EndpointData) → 2 + length (between (beforeOf k j) (afterOf k j)) ≡ jointCount j
-within k j = rw (inner-is k j, length-ladder) (length-inner k j)
+within : (base : ℕ) (j : EndpointData) → 2 + length (between (beforeOf base j) (afterOf base j)) ≡ jointCount j
+within base j = rw (inner-is base j, length-ladder) (length-inner base j)
 
 step-length : (s : Strip) (j : EndpointData) → Sound s → length (stepTriangles s j) + cond (s .begun) 0 2 ≡ jointCount j
 unfolding stepTriangles
 step-length s j o = go (s .begun) (o .behind)
   where
-    k : ℕ
-    k = nextOf s
+    base : ℕ
+    base = nextOf s
 
     b : Section
-    b = beforeOf k j
+    b = beforeOf base j
 
     a : Section
-    a = afterOf k j
+    a = afterOf base j
 
     go : (t : Bool) → (t ≡ true → Behind s) → length (past (cond t (s .last) b) b a) + cond t 0 2 ≡ jointCount j
     go true h =
         let q = side-few (j .positive) in
         let g = h refl in
-        let two = to-new (s .last) (beforeN k j) k (g .apart) (λ z. omega (arith, g .positive)) (λ z. omega (arith, g .negative)) (λ z. omega arith) (λ z. omega (arith, g .negative)) in
-        rw length-append (omega (arith, two, within k j))
-    go false h = rw (length-append, between-same b) (omega (arith, within k j))
+        let two = to-new (s .last) (beforeN base j) base (g .apart) (λ z. omega (arith, g .positive)) (λ z. omega (arith, g .negative)) (λ z. omega arith) (λ z. omega (arith, g .negative)) in
+        rw length-append (omega (arith, two, within base j))
+    go false h = rw (length-append, between-same b) (omega (arith, within base j))
 
 faces : (t : Bool) (m l c : ℕ) → l + cond t 0 2 ≡ c → m + l ≡ cond t (m + c) (m + c - 2)
 faces true m l c h = omega arith
@@ -57,8 +57,9 @@ unfolding stepOf steppedOf
 stepped-is s j o =
     let p = sideCountOf (j .positive) in
     let n = sideCountOf (j .negative) in
-    let last : nextOf s + p + n - 1 ≡ nextOf s + (p + n) - 1 = omega arith in
-    rw (faces (s .begun) (s .triangles) (length (stepTriangles s j)) (p + n) (step-length s j o), last)
+    let negative : nextOf s + p + n - 1 ≡ nextOf s + (p + n - 1) = omega (arith, side-few (j .positive)) in
+    let positive : nextOf s + p - 1 ≡ nextOf s + (p - 1) = omega (arith, side-few (j .positive)) in
+    rw (faces (s .begun) (s .triangles) (length (stepTriangles s j)) (p + n) (step-length s j o), negative, positive)
 
 -- a pass over one joint, whose sides have p and n vertices
 module _ {write : Bool} {s : Strip} {j : EndpointData} {v : List Float} {t : List ℕ} (h : Has write s (j ∷ []) v t)

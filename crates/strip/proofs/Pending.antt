@@ -29,13 +29,13 @@ pub record Laying (s₀ : Strip) (js₀ : List EndpointData) (v₀ : List Float)
 pub record Pending (write : Bool) (s₀ : Strip) (js₀ : List EndpointData) (v₀ : List Float) (t₀ : List ℕ) (js : List EndpointData) (s : Strip) (v : List Float) (t : List ℕ) : Type 0 where
   pub count-v : s .vertices + vertexCount js ≡ s₀ .vertices + vertexCount js₀
   pub count-t : s .triangles + length (trianglesFrom s js) ≡ s₀ .triangles + length (trianglesFrom s₀ js₀)
-  pub base : s .base ≡ s₀ .base
+  pub base : s .base .0 ≡ s₀ .base .0
   pub state : stepsOf s js ≡ stepsOf s₀ js₀
   pub sound : Sound s
   pub lists : write ≡ true → Laying s₀ js₀ v₀ t₀ js s v t
 
-length-put : {A : Type 0} (v ws : List A) (k : ℕ) → k ≤ length v → length (take k v ++ over ws (drop k v)) ≡ length v
-length-put v ws k h = rw (length-append, length-over) (simp (length-take, length-drop) (omega arith))
+length-put : {A : Type 0} (v ws : List A) (at : ℕ) → at ≤ length v → length (take at v ++ over ws (drop at v)) ≡ length v
+length-put v ws at h = rw (length-append, length-over) (simp (length-take, length-drop) (omega arith))
 
 module _ (write : Bool) where
   pub pending-all : (s : Strip) (js : List EndpointData) (v : List Float) (t : List ℕ) → Has write s js v t → Pending write s js v t js s v t
@@ -70,7 +70,7 @@ module _ (write : Bool) where
     has-next =
         let h = pending-has s₀ js₀ v₀ t₀ has (xs ++ js) s v t m in
         let n = count-append xs js in
-        let k = length-triangles-append s xs js in
+        let l = length-triangles-append s xs js in
         record {
           sound = h .sound;
           numbers = omega (arith, h .numbers);

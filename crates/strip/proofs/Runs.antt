@@ -50,38 +50,38 @@ strip-steps : (s : Strip) (js : List EndpointData) (zs : List Section) → s .be
 unfolding sections trianglesFrom stepsOf
 strip-steps s [] zs b = refl
 strip-steps s (j ∷ js) zs b =
-    let k = nextOf s in
-    let rest : List Section = sections (k + jointCount j) js ++ zs in
-    let n : k + jointCount j ≡ nextOf (stepOf s j) = sym (step-next s j) in
+    let base = nextOf s in
+    let rest : List Section = sections (base + jointCount j) js ++ zs in
+    let n : base + jointCount j ≡ nextOf (stepOf s j) = sym (step-next s j) in
     let on : List Tri = stripOf (stepsOf (stepOf s j) js .last) zs in
-    let e : stripOf (afterOf k j) rest ≡ trianglesFrom (stepOf s j) js ++ on =
+    let e : stripOf (afterOf base j) rest ≡ trianglesFrom (stepOf s j) js ++ on =
     rw (n, step-last s j) (strip-steps (stepOf s j) js zs (step-begins s j)) in
-    strip-two (s .last) (beforeOf k j) (afterOf k j) rest ∙ rw (step-begun s j b, e) (sym (append-assoc (stepTriangles s j) (trianglesFrom (stepOf s j) js) on))
+    strip-two (s .last) (beforeOf base j) (afterOf base j) rest ∙ rw (step-begun s j b, e) (sym (append-assoc (stepTriangles s j) (trianglesFrom (stepOf s j) js) on))
 
 -- the step that begins a run
-start-triangles : (k : ℕ) (j : EndpointData) → stepTriangles (startOf k) j ≡ between (beforeOf k j) (afterOf k j)
+start-triangles : (base : ℕ) (j : EndpointData) → stepTriangles (startOf base) j ≡ between (beforeOf base j) (afterOf base j)
 unfolding stepTriangles
-start-triangles k j = let n : k + 0 ≡ k = omega arith in rw (n, between-same (beforeOf k j))
+start-triangles base j = let n : base + 0 ≡ base = omega arith in rw (n, between-same (beforeOf base j))
 
-start-sections : (k : ℕ) (j : EndpointData) → (stepOf (startOf k) j .first ≡ beforeOf k j) × (stepOf (startOf k) j .last ≡ afterOf k j)
+start-sections : (base : ℕ) (j : EndpointData) → (stepOf (startOf base) j .first ≡ beforeOf base j) × (stepOf (startOf base) j .last ≡ afterOf base j)
 unfolding stepOf
-start-sections k j = let n : k + 0 ≡ k = omega arith in (rw n, rw n)
+start-sections base j = let n : base + 0 ≡ base = omega arith in (rw n, rw n)
 
 -- a run's triangles are those of its steps, and in a closed run those round to the first section
-pub triangles-are : (closed : Bool) (k : ℕ) (js : List EndpointData)
-    → trianglesOf closed k js ≡ trianglesFrom (startOf k) js ++ cond closed (between (stepsOf (startOf k) js .last) (stepsOf (startOf k) js .first)) []
+pub triangles-are : (closed : Bool) (base : ℕ) (js : List EndpointData)
+    → trianglesOf closed base js ≡ trianglesFrom (startOf base) js ++ cond closed (between (stepsOf (startOf base) js .last) (stepsOf (startOf base) js .first)) []
 unfolding through sections trianglesFrom stepsOf
-triangles-are true k [] = sym (between-same (sectionOf 0 0))
-triangles-are false k [] = refl
-triangles-are closed k (j ∷ js) =
-    let s = stepOf (startOf k) j in
-    let b = beforeOf k j in
-    let a = afterOf k j in
+triangles-are true base [] = sym (between-same (sectionOf 0 0))
+triangles-are false base [] = refl
+triangles-are closed base (j ∷ js) =
+    let s = stepOf (startOf base) j in
+    let b = beforeOf base j in
+    let a = afterOf base j in
     let zs : List Section = cond closed (b ∷ []) [] in
-    let n : k + jointCount j ≡ nextOf s = omega (arith, step-next (startOf k) j) in
-    let f : stepsOf s js .first ≡ b = steps-first s js (step-begins (startOf k) j) ∙ start-sections k j .0 in
+    let n : base + jointCount j ≡ nextOf s = omega (arith, step-next (startOf base) j) in
+    let f : stepsOf s js .first ≡ b = steps-first s js (step-begins (startOf base) j) ∙ start-sections base j .0 in
     let l = stepsOf s js .last in
-    let e : stripOf a (sections (k + jointCount j) js ++ zs) ≡ trianglesFrom s js ++ stripOf l zs =
-    rw (n, ← start-sections k j .1) (strip-steps s js zs (step-begins (startOf k) j)) in
-    strip-next b a (sections (k + jointCount j) js ++ zs)
-    ∙ rw (e, strip-home closed b l, f, start-triangles k j) (sym (append-assoc (between b a) (trianglesFrom s js) (cond closed (between l b) [])))
+    let e : stripOf a (sections (base + jointCount j) js ++ zs) ≡ trianglesFrom s js ++ stripOf l zs =
+    rw (n, ← start-sections base j .1) (strip-steps s js zs (step-begins (startOf base) j)) in
+    strip-next b a (sections (base + jointCount j) js ++ zs)
+    ∙ rw (e, strip-home closed b l, f, start-triangles base j) (sym (append-assoc (between b a) (trianglesFrom s js) (cond closed (between l b) [])))

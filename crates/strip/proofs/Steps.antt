@@ -31,7 +31,7 @@ unfolding stepsOf
 steps-append s [] ys = refl
 steps-append s (x ∷ xs) ys = steps-append (stepOf s x) xs ys
 
-pub steps-base : (s : Strip) (xs : List EndpointData) → stepsOf s xs .base ≡ s .base
+pub steps-base : (s : Strip) (xs : List EndpointData) → stepsOf s xs .base .0 ≡ s .base .0
 unfolding stepsOf stepOf
 steps-base s [] = refl
 steps-base s (x ∷ xs) = steps-base (stepOf s x) xs
@@ -55,11 +55,11 @@ pub narrow-choice : (t : Bool) (a b : Section) → Narrow a → Narrow b → Nar
 narrow-choice true a b h g = h
 narrow-choice false a b h g = g
 
-pub narrow-before : (k : ℕ) (j : EndpointData) → k + jointCount j < 65536 → Narrow (beforeOf k j)
-narrow-before k j h = record { n = omega arith; p = omega arith }
+pub narrow-before : (base : ℕ) (j : EndpointData) → base + jointCount j < 65536 → Narrow (beforeOf base j)
+narrow-before base j h = record { n = omega arith; p = omega arith }
 
-pub narrow-after : (k : ℕ) (j : EndpointData) → k + jointCount j < 65536 → Narrow (afterOf k j)
-narrow-after k j h = record { n = omega arith; p = omega arith }
+pub narrow-after : (base : ℕ) (j : EndpointData) → base + jointCount j < 65536 → Narrow (afterOf base j)
+narrow-after base j h = record { n = omega arith; p = omega arith }
 
 behind-step : (s : Strip) (j : EndpointData) → Behind (stepOf s j)
 unfolding stepOf
@@ -68,8 +68,8 @@ behind-step s j =
     let n = side-few (j .negative) in
     record { negative = omega arith; positive = omega arith; apart = λ z. omega arith }
 
-pub sound-start : (k : ℕ) → Sound (startOf k)
-sound-start k = record {
+pub sound-start : (base : ℕ) → Sound (startOf base)
+sound-start base = record {
   first = record { n = omega arith; p = omega arith };
   last = record { n = omega arith; p = omega arith };
   behind = λ b. absurd (true≢false (sym b));

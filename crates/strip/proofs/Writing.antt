@@ -22,10 +22,10 @@ use Rattle.strip.proofs.Triangles.{flatT-append, length-flatT}
 use Rattle.strip.proofs.Steps.{triangles-one, narrow-choice, narrow-before, narrow-after}
 
 -- the triangles xs, and the triangles ys in the part behind them: their number, and the list
-pub two-writers : (xs ys : List Tri) (m k : ℕ) (t t' t2 : List ℕ) → 3 * length (xs ++ ys) ≤ length t → m ≡ length xs → t' ≡ over (flatT xs) t
-    → k ≡ length ys → t2 ≡ over (flatT ys) (midOf (3 * m) (length t' - 3 * m) t')
-    → (m + k ≡ length (xs ++ ys)) × (putMid (3 * m) (length t' - 3 * m) t' t2 ≡ over (flatT (xs ++ ys)) t)
-two-writers xs ys m k t t' t2 h em et ek eu =
+pub two-writers : (xs ys : List Tri) (m l : ℕ) (t t' t2 : List ℕ) → 3 * length (xs ++ ys) ≤ length t → m ≡ length xs → t' ≡ over (flatT xs) t
+    → l ≡ length ys → t2 ≡ over (flatT ys) (midOf (3 * m) (length t' - 3 * m) t')
+    → (m + l ≡ length (xs ++ ys)) × (putMid (3 * m) (length t' - 3 * m) t' t2 ≡ over (flatT (xs ++ ys)) t)
+two-writers xs ys m l t t' t2 h em et el eu =
     let n = length-append xs ys in
     let many : length (flatT xs) ≡ 3 * m = rw em (length-flatT xs) in
     (omega arith, rw flatT-append (behind t t' t2 (flatT xs) (flatT ys) (3 * m) many (omega arith) et eu))

@@ -10,18 +10,18 @@ use Rattle.strip.specs.Joint.{jointCount}
 abbrev pub sectionOf : ℕ → ℕ → Section
 sectionOf n p = record { negative = record { 0 = n }; positive = record { 0 = p } }
 
--- "A join has two sections, before and after it.": before it the first vertex of each side, where the joint's vertices are numbered from k
+-- "A join has two sections, before and after it.": before it the first vertex of each side, where the joint's vertices are numbered from base
 abbrev pub beforeOf : ℕ → EndpointData → Section
-beforeOf k j = sectionOf (k + sideCountOf (j .positive)) k
+beforeOf base j = sectionOf (base + sideCountOf (j .positive)) base
 
 -- after it the last vertex of each side
 abbrev pub afterOf : ℕ → EndpointData → Section
-afterOf k j = sectionOf (k + sideCountOf (j .positive) + sideCountOf (j .negative) - 1) (k + sideCountOf (j .positive) - 1)
+afterOf base j = sectionOf (base + sideCountOf (j .positive) + sideCountOf (j .negative) - 1) (base + sideCountOf (j .positive) - 1)
 
 -- the sections in the run's order; "Vertex numbers go on"
 unfoldable pub sections : ℕ → List EndpointData → List Section
-sections k [] = []
-sections k (j ∷ js) = beforeOf k j ∷ afterOf k j ∷ sections (k + jointCount j) js
+sections base [] = []
+sections base (j ∷ js) = beforeOf base j ∷ afterOf base j ∷ sections (base + jointCount j) js
 
 -- a u16 holds the section's numbers
 pub record Narrow (s : Section) : Type 0 where

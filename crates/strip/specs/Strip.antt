@@ -16,11 +16,11 @@ use Rattle.strip.specs.Triangle.{Tri, flatT, past}
 
 -- "Vertex numbers go on over all runs": a run starts where the last ended
 abbrev pub startOf : ℕ → Strip
-startOf k = record { base = k; vertices = 0; triangles = 0; begun = false; first = sectionOf 0 0; last = sectionOf 0 0 }
+startOf base = record { base = record { 0 = base }; vertices = 0; triangles = 0; begun = false; first = sectionOf 0 0; last = sectionOf 0 0 }
 
 -- the number of the next vertex
 abbrev pub nextOf : Strip → ℕ
-nextOf s = s .base + s .vertices
+nextOf s = s .base .0 + s .vertices
 
 -- the last section, which is the one before the next joint where the run has not begun
 abbrev pub lastOf : Strip → EndpointData → Section
@@ -53,7 +53,7 @@ steppedOf s p n = record {
   triangles = cond (s .begun) (s .triangles + (p + n)) (s .triangles + (p + n) - 2);
   begun = true;
   first = cond (s .begun) (s .first) (sectionOf (nextOf s + p) (nextOf s));
-  last = sectionOf (nextOf s + (p + n) - 1) (nextOf s + p - 1);
+  last = sectionOf (nextOf s + (p + n - 1)) (nextOf s + (p - 1));
 }
 
 -- the state after the joints js

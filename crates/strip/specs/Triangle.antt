@@ -52,6 +52,6 @@ unfoldable pub through : Bool → List Section → List Tri
 through closed [] = []
 through closed (s ∷ ss) = stripOf s (ss ++ cond closed (s ∷ []) [])
 
--- the triangles of a run whose vertices are numbered from k
+-- the triangles of a run whose vertices are numbered from base
 abbrev pub trianglesOf : Bool → ℕ → List EndpointData → List Tri
-trianglesOf closed k js = through closed (sections k js)
+trianglesOf closed base js = through closed (sections base js)

@@ -5,10 +5,11 @@ use crate::section::Section;
 use crate::section::after;
 use crate::section::before;
 use crate::section::choose;
-use crate::section::section_of;
 use crate::triangle::write_between;
 use crate::triangle::write_past;
 use endpoint::EndpointData;
+use endpoint::VertexId;
+use endpoint::vertex_after;
 ghost use mathlib.Core.Bool.{true, cond};
 ghost use mathlib.Core.Path.{_≡_};
 ghost use mathlib.Core.List.{[], _∷_};
@@ -25,7 +26,7 @@ mod triangle;
 // How far a run's strip has come: the number of its first vertex, what it has so far, and its
 // first and its last section once it has begun.
 pub struct Strip {
-    pub base: usize,
+    pub base: VertexId,
     pub vertices: usize,
     pub triangles: usize,
     pub begun: bool,
@@ -34,10 +35,13 @@ pub struct Strip {
 }
 
 // A run whose vertices are numbered from base.
-pub fn start(base: usize) -> Strip
-    ensures { λ r. ⌜ r ≡ startOf base ⌝ }
+pub fn start(base: VertexId) -> Strip
+    ensures { λ r. ⌜ r ≡ startOf (base .0) ⌝ }
 {
-    let none = section_of(0, 0);
+    let none = Section {
+        negative: VertexId(0),
+        positive: VertexId(0),
+    };
     Strip {
         base,
         vertices: 0,
@@ -53,9 +57,9 @@ fn write_joint(v: &mut [f32], t: &mut [u16], s: Strip, j: EndpointData)
     requires { ⌜ Room s (j ∷ []) (now v) (now t) ⌝ }
     ensures { λ _. ⌜ Emits (j ∷ []) s (now (v .entry)) (now (v .exit)) (now (t .entry)) (now (t .exit)) ⌝ }
 {
-    let k = s.base + s.vertices;
-    let b = before(k, j);
-    let a = after(k, j);
+    let base = vertex_after(s.base, s.vertices);
+    let b = before(base, j);
+    let a = after(base, j);
     let last = choose(s.begun, s.last, b);
     write_vertices(v, j);
     write_past(t, last, b, a);
@@ -97,16 +101,23 @@ pub fn step(s: Strip, positive: usize, negative: usize) -> Strip
     requires { ⌜ Steps s positive negative ⌝ }
     ensures { λ r. ⌜ r ≡ steppedOf s positive negative ⌝ }
 {
-    let k = s.base + s.vertices;
+    let base = s.base;
+    let next = vertex_after(base, s.vertices);
     let n = positive + negative;
-    let before = section_of(k + positive, k);
+    let before = Section {
+        negative: vertex_after(next, positive),
+        positive: next,
+    };
     Strip {
-        base: s.base,
+        base,
         vertices: s.vertices + n,
         triangles: more_triangles(s.begun, s.triangles, n),
         begun: true,
         first: choose(s.begun, s.first, before),
-        last: section_of(k + n - 1, k + positive - 1),
+        last: Section {
+            negative: vertex_after(next, n - 1),
+            positive: vertex_after(next, positive - 1),
+        },
     }
 }
 

@@ -3,11 +3,12 @@ use crate::joint::negative_count;
 use crate::joint::positive_count;
 use endpoint::EndpointData;
 use endpoint::VertexId;
+use endpoint::vertex_after;
 ghost use mathlib.Core.Path.{_≡_};
 ghost use mathlib.Core.Bool.{cond};
 ghost use Prim.Native.Nat.{_+_, _<_};
 ghost use Rattle.strip.specs.Joint.{jointCount};
-ghost use Rattle.strip.specs.Section.{sectionOf, beforeOf, afterOf};
+ghost use Rattle.strip.specs.Section.{beforeOf, afterOf};
 
 // The vertices N and P.
 pub struct Section {
@@ -15,33 +16,28 @@ pub struct Section {
     pub positive: VertexId,
 }
 
-// The section of two vertex numbers.
-pub fn section_of(negative: usize, positive: usize) -> Section
-    requires { ⌜ (negative < 65536) × (positive < 65536) ⌝ }
-    ensures { λ r. ⌜ r ≡ sectionOf negative positive ⌝ }
+// The section before a joint whose vertices are numbered from base: the first vertex of each side.
+pub fn before(base: VertexId, j: EndpointData) -> Section
+    requires { ⌜ base .0 + jointCount j < 65536 ⌝ }
+    ensures { λ r. ⌜ r ≡ beforeOf (base .0) j ⌝ }
 {
     Section {
-        negative: VertexId(negative as u32),
-        positive: VertexId(positive as u32),
+        negative: vertex_after(base, positive_count(j)),
+        positive: base,
     }
 }
 
-// The section before a joint whose vertices are numbered from k: the first vertex of each side.
-pub fn before(k: usize, j: EndpointData) -> Section
-    requires { ⌜ k + jointCount j < 65536 ⌝ }
-    ensures { λ r. ⌜ r ≡ beforeOf k j ⌝ }
-{
-    section_of(k + positive_count(j), k)
-}
-
 // The section after it: the last vertex of each side.
-pub fn after(k: usize, j: EndpointData) -> Section
-    requires { ⌜ k + jointCount j < 65536 ⌝ }
-    ensures { λ r. ⌜ r ≡ afterOf k j ⌝ }
+pub fn after(base: VertexId, j: EndpointData) -> Section
+    requires { ⌜ base .0 + jointCount j < 65536 ⌝ }
+    ensures { λ r. ⌜ r ≡ afterOf (base .0) j ⌝ }
 {
     let p = positive_count(j);
     let n = negative_count(j);
-    section_of(k + p + n - 1, k + p - 1)
+    Section {
+        negative: vertex_after(base, p + n - 1),
+        positive: vertex_after(base, p - 1),
+    }
 }
 
 // The section a where the test holds, and b elsewhere.

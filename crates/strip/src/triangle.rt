@@ -9,17 +9,17 @@ ghost use Rattle.lists.specs.Over.{over};
 ghost use Rattle.strip.specs.Section.{Narrow};
 ghost use Rattle.strip.specs.Triangle.{different, triOf, flatT, between, past};
 
-// Whether no two of the numbers are equal.
-fn different(a: u32, b: u32, c: u32) -> bool
-    ensures { λ r. ⌜ r ≡ different a b c ⌝ }
+// Whether no two of the vertices are the same.
+fn different(a: VertexId, b: VertexId, c: VertexId) -> bool
+    ensures { λ r. ⌜ r ≡ different (a .0) (b .0) (c .0) ⌝ }
 {
-    if a == b {
+    if a.0 == b.0 {
         return false;
     }
-    if b == c {
+    if b.0 == c.0 {
         return false;
     }
-    a != c
+    a.0 != c.0
 }
 
 // A triangle, left out if two of its numbers are equal. The result is the number of triangles.
@@ -29,7 +29,7 @@ fn write_triangle(t: &mut [u16], a: VertexId, b: VertexId, c: VertexId) -> usize
     ensures { λ r. ⌜ r ≡ length (triOf (a .0) (b .0) (c .0)) ⌝ }
     ensures { λ _. ⌜ now (t .exit) ≡ over (flatT (triOf (a .0) (b .0) (c .0))) (now (t .entry)) ⌝ }
 {
-    if different(a.0, b.0, c.0) {
+    if different(a, b, c) {
         put_triangle(t, a, b, c);
         return 1;
     }
@@ -43,10 +43,10 @@ pub fn write_between(t: &mut [u16], s: Section, e: Section) -> usize
     ensures { λ r. ⌜ r ≡ length (between s e) ⌝ }
     ensures { λ _. ⌜ now (t .exit) ≡ over (flatT (between s e)) (now (t .entry)) ⌝ }
 {
-    let k = write_triangle(t, s.negative, s.positive, e.positive);
-    let at = 3 * k;
+    let n = write_triangle(t, s.negative, s.positive, e.positive);
+    let at = 3 * n;
     let m = write_triangle(&mut t[at..], s.negative, e.positive, e.negative);
-    k + m
+    n + m
 }
 
 // To the section before a joint, and on to the one after it. The result is the number of triangles.
@@ -56,8 +56,8 @@ pub fn write_past(t: &mut [u16], last: Section, b: Section, a: Section) -> usize
     ensures { λ r. ⌜ r ≡ length (past last b a) ⌝ }
     ensures { λ _. ⌜ now (t .exit) ≡ over (flatT (past last b a)) (now (t .entry)) ⌝ }
 {
-    let k = write_between(t, last, b);
-    let at = 3 * k;
+    let n = write_between(t, last, b);
+    let at = 3 * n;
     let m = write_between(&mut t[at..], b, a);
-    k + m
+    n + m
 }

@@ -1,10 +1,11 @@
 -- The empty square cap: "four vertices, two triangles", in the source's order and with its directions as the normals. Assumes nothing.
-use Prim.Native.Nat.{ℕ, _+_}
+use Prim.Native.Nat.{ℕ}
 use mathlib.Core.List.{List, _++_}
 use lib.Ieee.{Float, neg}
 use Rattle.plane.specs.F32.{f32}
 use Rattle.plane.specs.Vector.{point, plusOf, timesOf}
 use Rattle.plane.specs.declared.vector.Point.{Point}
+use Rattle.endpoint.specs.Endpoint.{vertexAfter}
 use Rattle.endpoint.specs.declared.VertexId.{VertexId}
 use Rattle.vertices.specs.Vertex.{vertexOf, triangleOf}
 
@@ -18,9 +19,6 @@ capPairOf position h a x = capVertexOf position h a x x ++ capVertexOf position 
 unfoldable pub capVerticesOf : Point → Float → Float → List Float
 capVerticesOf position h a = capPairOf position h a (f32 0x3f800000) ++ capPairOf position h a (neg (f32 0x3f800000))
 
-abbrev pub vertexAfter : VertexId → ℕ → VertexId
-vertexAfter v k = record { 0 = v .0 + k }
-
--- (a, b, c) and (a, c, d)
+-- (a, b, c) and (a, c, d), where a is base
 unfoldable pub capTrianglesOf : VertexId → List ℕ
-capTrianglesOf a = triangleOf a (vertexAfter a 1) (vertexAfter a 2) ++ triangleOf a (vertexAfter a 2) (vertexAfter a 3)
+capTrianglesOf base = triangleOf base (vertexAfter base 1) (vertexAfter base 2) ++ triangleOf base (vertexAfter base 2) (vertexAfter base 3)

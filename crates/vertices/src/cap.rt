@@ -2,6 +2,7 @@
 use crate::list::put_triangle;
 use crate::list::put_vertex;
 use endpoint::VertexId;
+use endpoint::vertex_after;
 use plane::vector::Point;
 use plane::vector::plus;
 use plane::vector::times;
@@ -37,21 +38,21 @@ fn put_corners(v: &mut [f32], position: Point, h: f32, a: f32)
     put_corner_pair(&mut v[10..], position, h, a, -1.0);
 }
 
-// Four vertices and two triangles; the first vertex has the number given.
+// Four vertices, numbered from base, and two triangles.
 pub fn tessellate_empty_square_cap(
     v: &mut [f32],
     t: &mut [u16],
-    first: VertexId,
+    base: VertexId,
     position: Point,
     h: f32,
     a: f32,
 )
-    requires { ⌜ (20 ≤ length (now v)) × (6 ≤ length (now t)) × (first .0 + 4 ≤ 65536) ⌝ }
+    requires { ⌜ (20 ≤ length (now v)) × (6 ≤ length (now t)) × (base .0 + 4 ≤ 65536) ⌝ }
     ensures { λ _. ⌜ now (v .exit) ≡ over (capVerticesOf position h a) (now (v .entry)) ⌝ }
-    ensures { λ _. ⌜ now (t .exit) ≡ over (capTrianglesOf first) (now (t .entry)) ⌝ }
+    ensures { λ _. ⌜ now (t .exit) ≡ over (capTrianglesOf base) (now (t .entry)) ⌝ }
 {
     put_corners(v, position, h, a);
-    let k = first.0;
-    put_triangle(t, first, VertexId(k + 1), VertexId(k + 2));
-    put_triangle(&mut t[3..], first, VertexId(k + 2), VertexId(k + 3));
+    let c = vertex_after(base, 2);
+    put_triangle(t, base, vertex_after(base, 1), c);
+    put_triangle(&mut t[3..], base, c, vertex_after(base, 3));
 }

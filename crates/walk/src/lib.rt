@@ -5,6 +5,7 @@ use course::kept::is_near;
 use course::leg::Leg;
 use course::leg::next_leg;
 use endpoint::Endpoint;
+use endpoint::EndpointId;
 use join::record::Corners;
 use join::record::corner_count;
 use path::options::Stroke;
@@ -86,27 +87,27 @@ fn visit(
     advance(v, t, o, w, p, write)
 }
 
-// The points of p from one on; k is the number of the run's first endpoint.
+// The points of p from one on; first is the number of the run's first endpoint.
 pub fn visit_all(
     v: &mut [f32],
     t: &mut [u16],
     o: Stroke,
     w: Walk,
     p: &[f32],
-    k: u32,
+    first: EndpointId,
     from: usize,
     sure: bool,
     write: bool,
 ) -> Walk
-    requires { ⌜ (length (now p) ≤ 8192) × (k ≤ 8192) ⌝ }
-    requires { ⌜ Has write (w .strip) (passed sure o (w .leg) (drop from (endpointsOf k (now p)))) (now v) (now t) ⌝ }
-    ensures { λ r. ⌜ Passes sure write o w (drop from (endpointsOf k (now (p .entry)))) (now (v .entry)) (now (v .exit)) (now (t .entry)) (now (t .exit)) r ⌝ }
+    requires { ⌜ (length (now p) ≤ 8192) × (first .0 ≤ 8192) ⌝ }
+    requires { ⌜ Has write (w .strip) (passed sure o (w .leg) (drop from (endpointsOf (first .0) (now p)))) (now v) (now t) ⌝ }
+    ensures { λ r. ⌜ Passes sure write o w (drop from (endpointsOf (first .0) (now (p .entry)))) (now (v .entry)) (now (v .exit)) (now (t .entry)) (now (t .exit)) r ⌝ }
 {
     let mut w = w;
     let mut i = from;
     let end = p.len() / 2;
     while i < end {
-        let c = endpoint_at(p, k, i);
+        let c = endpoint_at(p, first, i);
         w = visit(v, t, o, w, c, sure, write);
         i += 1;
     }

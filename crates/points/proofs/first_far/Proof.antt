@@ -13,10 +13,10 @@ use Rattle.points.proofs.first_far.Statement.{statement}
 use Rattle.points.proofs.first_far.Tie as tie
 
 abbrev Inv-loop : tie.InvT-loop
-Inv-loop p k p0 end i₀ i = (1 ≤ i) × (i ≤ length p / 2) × (keptBehind (endpointAt p k 0) (drop 1 (endpointsOf k p)) ≡ keptBehind (endpointAt p k 0) (drop i (endpointsOf k p)))
+Inv-loop p first p0 end i₀ i = (1 ≤ i) × (i ≤ length p / 2) × (keptBehind (endpointAt p (first .0) 0) (drop 1 (endpointsOf (first .0) p)) ≡ keptBehind (endpointAt p (first .0) 0) (drop i (endpointsOf (first .0) p)))
 
 abbrev μ-loop : tie.MeasureT-loop
-μ-loop p k p0 end i₀ i = end - i
+μ-loop p first p0 end i₀ i = end - i
 
 endpoint-at-requires : tie.Need-endpoint-at-requires Inv-loop μ-loop
 endpoint-at-requires c κs = omega (arith, c .before .pre)
@@ -34,7 +34,7 @@ returns : tie.Need-returns Inv-loop μ-loop
 returns c =
     let l = c .before .before .before .before .loop in
     let start = c .before .before .before .before .before .before .before in
-    let e : near (endpointAt (start .args .p .now) (start .args .k) 0) (endpointAt (start .args .p .now) (start .args .k) (l .i)) ≡ _ = rw (c .before .before .endpoint-at2 .ensures, c .before .before .before .before .before .endpoint-at .ensures) at (sym (c .before .is-near .ensures)) in
+    let e : near (endpointAt (start .args .p .now) (start .args .first .0) 0) (endpointAt (start .args .p .now) (start .args .first .0) (l .i)) ≡ _ = rw (c .before .before .endpoint-at2 .ensures, c .before .before .before .before .before .endpoint-at .ensures) at (sym (c .before .is-near .ensures)) in
     record { least = l .inv .0; within = l .inv .1; kept = l .inv .2; far = λ h. e ∙ not-true _ (c .if1 .taken) }
 
 add-i : tie.Need-add-i Inv-loop μ-loop
@@ -48,10 +48,10 @@ loop-again c =
     let l = c .before .before .before .before .loop in
     let start = c .before .before .before .before .before .before .before in
     let p = start .args .p .now in
-    let k = start .args .k in
+    let first = start .args .first .0 in
     let h : 2 * l .i + 2 ≤ length p = omega (arith, c .before .before .before .loop-test .taken) in
-    let e : near (endpointAt p k 0) (endpointAt p k (l .i)) ≡ _ = rw (c .before .before .endpoint-at2 .ensures, c .before .before .before .before .before .endpoint-at .ensures) at (sym (c .before .is-near .ensures)) in
-    (omega arith, omega (arith, c .before .before .before .loop-test .taken), l .inv .2 ∙ rw (points-at p k (l .i) h) (keep-near _ _ _ (e ∙ not-false _ (c .if1 .left))))
+    let e : near (endpointAt p first 0) (endpointAt p first (l .i)) ≡ _ = rw (c .before .before .endpoint-at2 .ensures, c .before .before .before .before .before .endpoint-at .ensures) at (sym (c .before .is-near .ensures)) in
+    (omega arith, omega (arith, c .before .before .before .loop-test .taken), l .inv .2 ∙ rw (points-at p first (l .i) h) (keep-near _ _ _ (e ∙ not-false _ (c .if1 .left))))
 
 returns-2 : tie.Need-returns-2 Inv-loop μ-loop
 returns-2 c =

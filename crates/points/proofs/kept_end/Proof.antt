@@ -7,10 +7,10 @@ use Rattle.points.proofs.kept_end.Statement.{statement}
 use Rattle.points.proofs.kept_end.Tie as tie
 
 abbrev Inv-loop : tie.InvT-loop
-Inv-loop p k p0 n l₀ i₀ l i = Ending p k l i
+Inv-loop p first p0 n l₀ i₀ l i = Ending p (first .0) l i
 
 abbrev μ-loop : tie.MeasureT-loop
-μ-loop p k p0 n l₀ i₀ l i = n - i
+μ-loop p first p0 n l₀ i₀ l i = n - i
 
 endpoint-at-requires : tie.Need-endpoint-at-requires Inv-loop μ-loop
 endpoint-at-requires c κs = omega (arith, c .before .pre)
@@ -34,13 +34,13 @@ loop-again : tie.Need-loop-again Inv-loop μ-loop
 loop-again c =
     let l = c .before .before .before .loop in
     let start = c .before .before .before .before .before .before in
-    rw (c .looked .ensures, c .before .endpoint-at2 .ensures, c .before .before .before .before .endpoint-at .ensures) (ending-turn (start .args .p .now) (start .args .k) (l .l) (l .i) (c .before .before .loop-test .taken) (l .inv))
+    rw (c .looked .ensures, c .before .endpoint-at2 .ensures, c .before .before .before .before .endpoint-at .ensures) (ending-turn (start .args .p .now) (start .args .first .0) (l .l) (l .i) (c .before .before .loop-test .taken) (l .inv))
 
 returns : tie.Need-returns Inv-loop μ-loop
 returns c =
     let l = c .before .loop in
     let start = c .before .before .before .before in
-    ending-all (start .args .p .now) (start .args .k) (l .l) (l .i) (c .loop-test .left) (l .inv)
+    ending-all (start .args .p .now) (start .args .first .0) (l .l) (l .i) (c .loop-test .left) (l .inv)
 
 pub kept-end-spec : {M : Type 1} → statement M
 kept-end-spec =

@@ -22,17 +22,17 @@ vertices-are (j ∷ js) =
     let n = side-few (j .negative) in
     omega (arith, vertices-are js)
 
-length-moves : (k : ℕ) (js : List EndpointData) → length (movesOf k js) ≡ vertexCount js
+length-moves : (base : ℕ) (js : List EndpointData) → length (movesOf base js) ≡ vertexCount js
 unfolding movesOf vertexCount
-length-moves k [] = refl
-length-moves k (j ∷ js) = simp length-append (omega (arith, length-inner k j, length-moves (k + jointCount j) js))
+length-moves base [] = refl
+length-moves base (j ∷ js) = simp length-append (omega (arith, length-inner base j, length-moves (base + jointCount j) js))
 
 -- an open run: "2(n-1)+d triangles", two fewer than its vertices
-pub open-count : (k : ℕ) (j : EndpointData) (js : List EndpointData) → 2 + length (trianglesOf false k (j ∷ js)) ≡ vertexCount (j ∷ js)
-open-count k j js =
-    rw (open-moves k j js, length-ladder, length-append) (omega (arith, count-more j js, length-inner k j, length-moves (k + jointCount j) js))
+pub open-count : (base : ℕ) (j : EndpointData) (js : List EndpointData) → 2 + length (trianglesOf false base (j ∷ js)) ≡ vertexCount (j ∷ js)
+open-count base j js =
+    rw (open-moves base j js, length-ladder, length-append) (omega (arith, count-more j js, length-inner base j, length-moves (base + jointCount j) js))
 
 -- a closed run: "2n+d and 2n+d"
-pub closed-count : (k : ℕ) (j i : EndpointData) (js : List EndpointData) → length (trianglesOf true k (j ∷ i ∷ js)) ≡ vertexCount (j ∷ i ∷ js)
-closed-count k j i js =
-    rw (closed-moves k j i js, length-ladder, length-append, length-append) (omega (arith, count-more j (i ∷ js), length-inner k j, length-moves (k + jointCount j) (i ∷ js)))
+pub closed-count : (base : ℕ) (j i : EndpointData) (js : List EndpointData) → length (trianglesOf true base (j ∷ i ∷ js)) ≡ vertexCount (j ∷ i ∷ js)
+closed-count base j i js =
+    rw (closed-moves base j i js, length-ladder, length-append, length-append) (omega (arith, count-more j (i ∷ js), length-inner base j, length-moves (base + jointCount j) (i ∷ js)))

@@ -34,96 +34,96 @@ abbrev AllIn : ℕ → ℕ → List ℕ → Type 0
 AllIn lo hi [] = Unit
 AllIn lo hi (r ∷ rs) = In lo hi r × AllIn lo hi rs
 
-apart-above : (lo k x : ℕ) (rs : List ℕ) → AllIn lo k rs → k ≤ x → Apart x rs
-apart-above lo k x [] i h = tt
-apart-above lo k x (r ∷ rs) i h = (λ z. omega (arith, i .0), apart-above lo k x rs (i .1) h)
+apart-above : (lo base x : ℕ) (rs : List ℕ) → AllIn lo base rs → base ≤ x → Apart x rs
+apart-above lo base x [] i h = tt
+apart-above lo base x (r ∷ rs) i h = (λ z. omega (arith, i .0), apart-above lo base x rs (i .1) h)
 
-apart-below : (lo k x : ℕ) (rs : List ℕ) → AllIn lo k rs → x < lo → Apart x rs
-apart-below lo k x [] i h = tt
-apart-below lo k x (r ∷ rs) i h = (λ z. omega (arith, i .0), apart-below lo k x rs (i .1) h)
+apart-below : (lo base x : ℕ) (rs : List ℕ) → AllIn lo base rs → x < lo → Apart x rs
+apart-below lo base x [] i h = tt
+apart-below lo base x (r ∷ rs) i h = (λ z. omega (arith, i .0), apart-below lo base x rs (i .1) h)
 
-in-wider : (lo k l m : ℕ) (rs : List ℕ) → AllIn lo k rs → l ≤ lo → k ≤ m → AllIn l m rs
-in-wider lo k l m [] i g h = tt
-in-wider lo k l m (r ∷ rs) i g h = ((omega (arith, i .0), omega (arith, i .0)), in-wider lo k l m rs (i .1) g h)
+in-wider : (lo base l m : ℕ) (rs : List ℕ) → AllIn lo base rs → l ≤ lo → base ≤ m → AllIn l m rs
+in-wider lo base l m [] i g h = tt
+in-wider lo base l m (r ∷ rs) i g h = ((omega (arith, i .0), omega (arith, i .0)), in-wider lo base l m rs (i .1) g h)
 
 -- within a joint, and then the moves ms, which are fresh from the section after it
-fresh-sides : (lo k : ℕ) (s t : SidePoints) (rs : List ℕ) (ms : List Move) → AllIn lo k rs → lo ≤ k
-    → ((rs' : List ℕ) (n p : ℕ) → AllIn lo (k + (sideCountOf s + sideCountOf t)) rs'
-    → n ≡ k + sideCountOf s + sideCountOf t - 1 → p ≡ k + sideCountOf s - 1 → Fresh rs' n p ms)
-    → Fresh rs (k + sideCountOf s) k ((inP k s ++ inN (k + sideCountOf s) t) ++ ms)
+fresh-sides : (lo base : ℕ) (s t : SidePoints) (rs : List ℕ) (ms : List Move) → AllIn lo base rs → lo ≤ base
+    → ((rs' : List ℕ) (n p : ℕ) → AllIn lo (base + (sideCountOf s + sideCountOf t)) rs'
+    → n ≡ base + sideCountOf s + sideCountOf t - 1 → p ≡ base + sideCountOf s - 1 → Fresh rs' n p ms)
+    → Fresh rs (base + sideCountOf s) base ((inP base s ++ inN (base + sideCountOf s) t) ++ ms)
 unfolding inP inN
-fresh-sides lo k (Single a b) (Single c d) rs ms i h on = on rs (k + 1) k (in-wider lo k lo (k + 2) rs i (omega arith) (omega arith)) (omega arith) (omega arith)
-fresh-sides lo k (Single a b) (Pair c d e f) rs ms i h on = (
-  record { apart = apart-above lo k (k + 1 + 1) rs i (omega arith); notN = λ z. omega arith; notP = λ z. omega arith },
-  on ((k + 1) ∷ []) (k + 1 + 1) k ((omega arith, omega arith), tt) (omega arith) (omega arith),
+fresh-sides lo base (Single a b) (Single c d) rs ms i h on = on rs (base + 1) base (in-wider lo base lo (base + 2) rs i (omega arith) (omega arith)) (omega arith) (omega arith)
+fresh-sides lo base (Single a b) (Pair c d e f) rs ms i h on = (
+  record { apart = apart-above lo base (base + 1 + 1) rs i (omega arith); notN = λ z. omega arith; notP = λ z. omega arith },
+  on ((base + 1) ∷ []) (base + 1 + 1) base ((omega arith, omega arith), tt) (omega arith) (omega arith),
 )
-fresh-sides lo k (Pair a b c d) (Single e f) rs ms i h on = (
-  record { apart = apart-above lo k (k + 1) rs i (omega arith); notN = λ z. omega arith; notP = λ z. omega arith },
-  on (k ∷ []) (k + 2) (k + 1) ((h, omega arith), tt) (omega arith) (omega arith),
+fresh-sides lo base (Pair a b c d) (Single e f) rs ms i h on = (
+  record { apart = apart-above lo base (base + 1) rs i (omega arith); notN = λ z. omega arith; notP = λ z. omega arith },
+  on (base ∷ []) (base + 2) (base + 1) ((h, omega arith), tt) (omega arith) (omega arith),
 )
-fresh-sides lo k (Pair a b c d) (Pair e f g j) rs ms i h on = (
-  record { apart = apart-above lo k (k + 1) rs i (omega arith); notN = λ z. omega arith; notP = λ z. omega arith },
+fresh-sides lo base (Pair a b c d) (Pair e f g j) rs ms i h on = (
+  record { apart = apart-above lo base (base + 1) rs i (omega arith); notN = λ z. omega arith; notP = λ z. omega arith },
   (
     record { apart = ((λ z. omega arith), tt); notN = λ z. omega arith; notP = λ z. omega arith },
-    on ((k + 2) ∷ []) (k + 2 + 1) (k + 1) ((omega arith, omega arith), tt) (omega arith) (omega arith),
+    on ((base + 2) ∷ []) (base + 2 + 1) (base + 1) ((omega arith, omega arith), tt) (omega arith) (omega arith),
   ),
 )
 
 -- the same from a section of smaller numbers on
-fresh-joint : (lo k : ℕ) (j : EndpointData) (rs : List ℕ) (n p : ℕ) (ms : List Move) → AllIn 0 k rs → n < k → p < k → n ≢ p → lo ≤ n
-    → ((rs' : List ℕ) (n' p' : ℕ) → AllIn lo (k + jointCount j) rs' → n' ≡ afterN k j → p' ≡ afterP k j → Fresh rs' n' p' ms)
-    → Fresh rs n p (toP k ∷ toN (beforeN k j) ∷ inner k j ++ ms)
+fresh-joint : (lo base : ℕ) (j : EndpointData) (rs : List ℕ) (n p : ℕ) (ms : List Move) → AllIn 0 base rs → n < base → p < base → n ≢ p → lo ≤ n
+    → ((rs' : List ℕ) (n' p' : ℕ) → AllIn lo (base + jointCount j) rs' → n' ≡ afterN base j → p' ≡ afterP base j → Fresh rs' n' p' ms)
+    → Fresh rs n p (toP base ∷ toN (beforeN base j) ∷ inner base j ++ ms)
 unfolding inner
-fresh-joint lo k j rs n p ms i f g d l on =
+fresh-joint lo base j rs n p ms i f g d l on =
     let q = side-few (j .positive) in (
-      record { apart = apart-above 0 k k rs i (omega arith); notN = λ z. omega arith; notP = λ z. omega arith },
+      record { apart = apart-above 0 base base rs i (omega arith); notN = λ z. omega arith; notP = λ z. omega arith },
       (
         record { apart = ((λ z. omega arith), tt); notN = λ z. omega arith; notP = λ z. omega arith },
-        fresh-sides lo k (j .positive) (j .negative) (n ∷ []) ms ((l, f), tt) (omega arith) on,
+        fresh-sides lo base (j .positive) (j .negative) (n ∷ []) ms ((l, f), tt) (omega arith) on,
       ),
     )
 
 -- the joints js, and then the moves zs; what was replaced is lo at least, and the section's numbers l at least
 fresh-moves : (lo l : ℕ) (zs : List Move) → lo ≤ l
-    → ((k : ℕ) (rs : List ℕ) (n p : ℕ) → AllIn lo k rs → n ≢ p → l ≤ n → l ≤ p → Fresh rs n p zs)
-    → (js : List EndpointData) (k : ℕ) (rs : List ℕ) (n p : ℕ) → AllIn lo k rs → n < k → p < k → n ≢ p → l ≤ n → l ≤ p → Fresh rs n p (movesOf k js ++ zs)
+    → ((base : ℕ) (rs : List ℕ) (n p : ℕ) → AllIn lo base rs → n ≢ p → l ≤ n → l ≤ p → Fresh rs n p zs)
+    → (js : List EndpointData) (base : ℕ) (rs : List ℕ) (n p : ℕ) → AllIn lo base rs → n < base → p < base → n ≢ p → l ≤ n → l ≤ p → Fresh rs n p (movesOf base js ++ zs)
 unfolding movesOf
-fresh-moves lo l zs b last [] k rs n p i f g d e h = last k rs n p i d e h
-fresh-moves lo l zs b last (j ∷ js) k rs n p i f g d e h =
+fresh-moves lo l zs b last [] base rs n p i f g d e h = last base rs n p i d e h
+fresh-moves lo l zs b last (j ∷ js) base rs n p i f g d e h =
     let q = side-few (j .positive) in
     let r = side-few (j .negative) in
-    rw (append-assoc (inner k j) (movesOf (k + jointCount j) js) zs)
-    (fresh-joint lo k j rs n p (movesOf (k + jointCount j) js ++ zs) (in-wider lo k 0 k rs i (omega arith) (omega arith)) f g d (omega arith)
-    (λ rs' n' p' i' x y. fresh-moves lo l zs b last js (k + jointCount j) rs' n' p' i' (omega arith) (omega arith) (λ z. omega arith) (omega arith) (omega arith)))
+    rw (append-assoc (inner base j) (movesOf (base + jointCount j) js) zs)
+    (fresh-joint lo base j rs n p (movesOf (base + jointCount j) js ++ zs) (in-wider lo base 0 base rs i (omega arith) (omega arith)) f g d (omega arith)
+    (λ rs' n' p' i' x y. fresh-moves lo l zs b last js (base + jointCount j) rs' n' p' i' (omega arith) (omega arith) (λ z. omega arith) (omega arith) (omega arith)))
 
-pub open-fresh : (k : ℕ) (j : EndpointData) (js : List EndpointData) → Fresh [] (beforeN k j) k (inner k j ++ movesOf (k + jointCount j) js)
+pub open-fresh : (base : ℕ) (j : EndpointData) (js : List EndpointData) → Fresh [] (beforeN base j) base (inner base j ++ movesOf (base + jointCount j) js)
 unfolding inner
-open-fresh k j js =
+open-fresh base j js =
     let q = side-few (j .positive) in
     let r = side-few (j .negative) in
-    fresh-sides 0 k (j .positive) (j .negative) [] (movesOf (k + jointCount j) js) tt (omega arith)
+    fresh-sides 0 base (j .positive) (j .negative) [] (movesOf (base + jointCount j) js) tt (omega arith)
     (λ rs n p i x y. rw append-nil at
-    (fresh-moves 0 0 [] (omega arith) (λ k' rs' n' p' i' d e h. tt) js (k + jointCount j) rs n p i (omega arith) (omega arith) (λ z. omega arith) (omega arith) (omega arith)))
+    (fresh-moves 0 0 [] (omega arith) (λ base' rs' n' p' i' d e h. tt) js (base + jointCount j) rs n p i (omega arith) (omega arith) (λ z. omega arith) (omega arith) (omega arith)))
 
--- the way home is to k and then to the first joint's negative vertex, which are below all that was replaced and all of the other joints' sections
-home-fresh : (k m : ℕ) (j : EndpointData) → beforeN k j < m
-    → (hi : ℕ) (rs : List ℕ) (n p : ℕ) → AllIn (k + 1) hi rs → n ≢ p → m ≤ n → m ≤ p → Fresh rs n p (home k j)
-home-fresh k m j b hi rs n p i d e h =
+-- the way home is to base and then to the first joint's negative vertex, which are below all that was replaced and all of the other joints' sections
+home-fresh : (base m : ℕ) (j : EndpointData) → beforeN base j < m
+    → (hi : ℕ) (rs : List ℕ) (n p : ℕ) → AllIn (base + 1) hi rs → n ≢ p → m ≤ n → m ≤ p → Fresh rs n p (home base j)
+home-fresh base m j b hi rs n p i d e h =
     let q = side-few (j .positive) in (
-      record { apart = apart-below (k + 1) hi k rs i (omega arith); notN = λ z. omega arith; notP = λ z. omega arith },
+      record { apart = apart-below (base + 1) hi base rs i (omega arith); notN = λ z. omega arith; notP = λ z. omega arith },
       (record { apart = ((λ z. omega arith), tt); notN = λ z. omega arith; notP = λ z. omega arith }, tt),
     )
 
-pub closed-fresh : (k : ℕ) (j i : EndpointData) (js : List EndpointData) → Fresh [] (beforeN k j) k (inner k j ++ (movesOf (k + jointCount j) (i ∷ js) ++ home k j))
+pub closed-fresh : (base : ℕ) (j i : EndpointData) (js : List EndpointData) → Fresh [] (beforeN base j) base (inner base j ++ (movesOf (base + jointCount j) (i ∷ js) ++ home base j))
 unfolding inner
-closed-fresh k j i js =
+closed-fresh base j i js =
     let q = side-few (j .positive) in
     let r = side-few (j .negative) in
     let q2 = side-few (i .positive) in
     let r2 = side-few (i .negative) in
-    let m = k + jointCount j in
-    fresh-sides 0 k (j .positive) (j .negative) [] (movesOf m (i ∷ js) ++ home k j) tt (omega arith)
-    (λ rs n p a x y. rw (moves-cons m i js (home k j))
-    (fresh-joint (k + 1) m i rs n p (movesOf (m + jointCount i) js ++ home k j) a (omega arith) (omega arith) (λ z. omega arith) (omega arith)
-    (λ rs' n' p' a' x' y'. fresh-moves (k + 1) m (home k j) (omega arith) (home-fresh k m j (omega arith))
+    let m = base + jointCount j in
+    fresh-sides 0 base (j .positive) (j .negative) [] (movesOf m (i ∷ js) ++ home base j) tt (omega arith)
+    (λ rs n p a x y. rw (moves-cons m i js (home base j))
+    (fresh-joint (base + 1) m i rs n p (movesOf (m + jointCount i) js ++ home base j) a (omega arith) (omega arith) (λ z. omega arith) (omega arith)
+    (λ rs' n' p' a' x' y'. fresh-moves (base + 1) m (home base j) (omega arith) (home-fresh base m j (omega arith))
     js (m + jointCount i) rs' n' p' a' (omega arith) (omega arith) (λ z. omega arith) (omega arith) (omega arith))))

@@ -64,73 +64,73 @@ between-none : (n p : ℕ) → between (sectionOf n p) (sectionOf n p) ≡ ladde
 unfolding between ladder
 between-none n p = rw (tri-end n p, tri-ends n p)
 
--- the numbers of the sections before and after a joint whose vertices are numbered from k; its first positive vertex is k
+-- the numbers of the sections before and after a joint whose vertices are numbered from base; its first positive vertex is base
 abbrev pub beforeN : ℕ → EndpointData → ℕ
-beforeN k j = beforeOf k j .negative .0
+beforeN base j = beforeOf base j .negative .0
 
 abbrev pub afterN : ℕ → EndpointData → ℕ
-afterN k j = afterOf k j .negative .0
+afterN base j = afterOf base j .negative .0
 
 abbrev pub afterP : ℕ → EndpointData → ℕ
-afterP k j = afterOf k j .positive .0
+afterP base j = afterOf base j .positive .0
 
 -- the moves from the one to the other, a side at a time
 unfoldable pub inP : ℕ → SidePoints → List Move
-inP k (Single x y) = []
-inP k (Pair x0 y0 x1 y1) = toP (k + 1) ∷ []
+inP base (Single x y) = []
+inP base (Pair x0 y0 x1 y1) = toP (base + 1) ∷ []
 
 unfoldable pub inN : ℕ → SidePoints → List Move
-inN k (Single x y) = []
-inN k (Pair x0 y0 x1 y1) = toN (k + 1) ∷ []
+inN base (Single x y) = []
+inN base (Pair x0 y0 x1 y1) = toN (base + 1) ∷ []
 
 unfoldable pub inner : ℕ → EndpointData → List Move
-inner k j = inP k (j .positive) ++ inN (beforeN k j) (j .negative)
+inner base j = inP base (j .positive) ++ inN (beforeN base j) (j .negative)
 
-pub length-inner : (k : ℕ) (j : EndpointData) → 2 + length (inner k j) ≡ jointCount j
+pub length-inner : (base : ℕ) (j : EndpointData) → 2 + length (inner base j) ≡ jointCount j
 unfolding inner inP inN
-length-inner k j = go (j .positive) (j .negative)
+length-inner base j = go (j .positive) (j .negative)
   where
-    go : (s t : SidePoints) → 2 + length (inP k s ++ inN (k + sideCountOf s) t) ≡ sideCountOf s + sideCountOf t
+    go : (s t : SidePoints) → 2 + length (inP base s ++ inN (base + sideCountOf s) t) ≡ sideCountOf s + sideCountOf t
     go (Single a b) (Single c d) = refl
     go (Single a b) (Pair c d e f) = refl
     go (Pair a b c d) (Single e f) = refl
     go (Pair a b c d) (Pair e f g h) = refl
 
-pub inner-is : (k : ℕ) (j : EndpointData) → between (beforeOf k j) (afterOf k j) ≡ ladder (beforeN k j) k (inner k j)
+pub inner-is : (base : ℕ) (j : EndpointData) → between (beforeOf base j) (afterOf base j) ≡ ladder (beforeN base j) base (inner base j)
 unfolding inner inP inN
-inner-is k j = go (j .positive) (j .negative)
+inner-is base j = go (j .positive) (j .negative)
   where
-    go : (s t : SidePoints) → between (sectionOf (k + sideCountOf s) k) (sectionOf (k + sideCountOf s + sideCountOf t - 1) (k + sideCountOf s - 1))
-        ≡ ladder (k + sideCountOf s) k (inP k s ++ inN (k + sideCountOf s) t)
+    go : (s t : SidePoints) → between (sectionOf (base + sideCountOf s) base) (sectionOf (base + sideCountOf s + sideCountOf t - 1) (base + sideCountOf s - 1))
+        ≡ ladder (base + sideCountOf s) base (inP base s ++ inN (base + sideCountOf s) t)
     go (Single a b) (Single c d) =
-        let m : k + 1 + 1 - 1 ≡ k + 1 = omega arith in
-        let q : k + 1 - 1 ≡ k = omega arith in
-        rw (m, q) (between-none (k + 1) k)
+        let m : base + 1 + 1 - 1 ≡ base + 1 = omega arith in
+        let q : base + 1 - 1 ≡ base = omega arith in
+        rw (m, q) (between-none (base + 1) base)
     go (Single a b) (Pair c d e f) =
-        let m : k + 1 + 2 - 1 ≡ k + 1 + 1 = omega arith in
-        let q : k + 1 - 1 ≡ k = omega arith in
-        rw (m, q) (between-n (k + 1) k (k + 1 + 1) (λ z. omega arith) (λ z. omega arith) (λ z. omega arith))
+        let m : base + 1 + 2 - 1 ≡ base + 1 + 1 = omega arith in
+        let q : base + 1 - 1 ≡ base = omega arith in
+        rw (m, q) (between-n (base + 1) base (base + 1 + 1) (λ z. omega arith) (λ z. omega arith) (λ z. omega arith))
     go (Pair a b c d) (Single e f) =
-        let m : k + 2 + 1 - 1 ≡ k + 2 = omega arith in
-        let q : k + 2 - 1 ≡ k + 1 = omega arith in
-        rw (m, q) (between-p (k + 2) k (k + 1) (λ z. omega arith) (λ z. omega arith) (λ z. omega arith))
+        let m : base + 2 + 1 - 1 ≡ base + 2 = omega arith in
+        let q : base + 2 - 1 ≡ base + 1 = omega arith in
+        rw (m, q) (between-p (base + 2) base (base + 1) (λ z. omega arith) (λ z. omega arith) (λ z. omega arith))
     go (Pair a b c d) (Pair e f g h) =
-        let m : k + 2 + 2 - 1 ≡ k + 2 + 1 = omega arith in
-        let q : k + 2 - 1 ≡ k + 1 = omega arith in
-        rw (m, q) (between-both (k + 2) k (k + 2 + 1) (k + 1) (λ z. omega arith) (λ z. omega arith) (λ z. omega arith) (λ z. omega arith) (λ z. omega arith))
+        let m : base + 2 + 2 - 1 ≡ base + 2 + 1 = omega arith in
+        let q : base + 2 - 1 ≡ base + 1 = omega arith in
+        rw (m, q) (between-both (base + 2) base (base + 2 + 1) (base + 1) (λ z. omega arith) (λ z. omega arith) (λ z. omega arith) (λ z. omega arith) (λ z. omega arith))
 
-inner-ends : (k : ℕ) (j : EndpointData) → (endN (beforeN k j) (inner k j) ≡ afterN k j) × (endP k (inner k j) ≡ afterP k j)
+inner-ends : (base : ℕ) (j : EndpointData) → (endN (beforeN base j) (inner base j) ≡ afterN base j) × (endP base (inner base j) ≡ afterP base j)
 unfolding inner inP inN endN endP
-inner-ends k j = go (j .positive) (j .negative)
+inner-ends base j = go (j .positive) (j .negative)
   where
-    go : (s t : SidePoints) → (endN (k + sideCountOf s) (inP k s ++ inN (k + sideCountOf s) t) ≡ k + sideCountOf s + sideCountOf t - 1)
-        × (endP k (inP k s ++ inN (k + sideCountOf s) t) ≡ k + sideCountOf s - 1)
+    go : (s t : SidePoints) → (endN (base + sideCountOf s) (inP base s ++ inN (base + sideCountOf s) t) ≡ base + sideCountOf s + sideCountOf t - 1)
+        × (endP base (inP base s ++ inN (base + sideCountOf s) t) ≡ base + sideCountOf s - 1)
     go (Single a b) (Single c d) = (omega arith, omega arith)
     go (Single a b) (Pair c d e f) = (omega arith, omega arith)
     go (Pair a b c d) (Single e f) = (omega arith, omega arith)
     go (Pair a b c d) (Pair e f g h) = (omega arith, omega arith)
 
 -- the moves within a joint, and then others from the section after it
-pub joint-on : (k : ℕ) (j : EndpointData) (ms : List Move)
-    → ladder (beforeN k j) k (inner k j ++ ms) ≡ between (beforeOf k j) (afterOf k j) ++ ladder (afterN k j) (afterP k j) ms
-joint-on k j ms = ladder-append (beforeN k j) k (inner k j) ms ∙ rw (inner-ends k j .0, inner-ends k j .1, inner-is k j)
+pub joint-on : (base : ℕ) (j : EndpointData) (ms : List Move)
+    → ladder (beforeN base j) base (inner base j ++ ms) ≡ between (beforeOf base j) (afterOf base j) ++ ladder (afterN base j) (afterP base j) ms
+joint-on base j ms = ladder-append (beforeN base j) base (inner base j) ms ∙ rw (inner-ends base j .0, inner-ends base j .1, inner-is base j)

@@ -33,45 +33,45 @@ goes-left x (toP y ∷ xs) ys (hereP e) = hereP e
 goes-left x (toN y ∷ xs) ys (hereN e) = hereN e
 goes-left x (m ∷ xs) ys (later g) = later (goes-left x xs ys g)
 
-or-later-p : (x k : ℕ) (ms : List Move) → (k ≢ x → Goes x ms) → Goes x (toP k ∷ ms)
-or-later-p x k ms f = go (ℕ-discrete k x)
+or-later-p : (x base : ℕ) (ms : List Move) → (base ≢ x → Goes x ms) → Goes x (toP base ∷ ms)
+or-later-p x base ms f = go (ℕ-discrete base x)
   where
-    go : Dec (k ≡ x) → Goes x (toP k ∷ ms)
+    go : Dec (base ≡ x) → Goes x (toP base ∷ ms)
     go (yes e) = hereP e
     go (no n) = later (f n)
 
-or-later-n : (x k : ℕ) (ms : List Move) → (k ≢ x → Goes x ms) → Goes x (toN k ∷ ms)
-or-later-n x k ms f = go (ℕ-discrete k x)
+or-later-n : (x base : ℕ) (ms : List Move) → (base ≢ x → Goes x ms) → Goes x (toN base ∷ ms)
+or-later-n x base ms f = go (ℕ-discrete base x)
   where
-    go : Dec (k ≡ x) → Goes x (toN k ∷ ms)
+    go : Dec (base ≡ x) → Goes x (toN base ∷ ms)
     go (yes e) = hereN e
     go (no n) = later (f n)
 
 -- to a joint's own vertices: those of the section before it, and the others
-goes-inner : (k x : ℕ) (j : EndpointData) → k ≤ x → x < k + jointCount j → k ≢ x → beforeN k j ≢ x → Goes x (inner k j)
+goes-inner : (base x : ℕ) (j : EndpointData) → base ≤ x → x < base + jointCount j → base ≢ x → beforeN base j ≢ x → Goes x (inner base j)
 unfolding inner inP inN
-goes-inner k x j f g a b = go (j .positive) (j .negative) g b
+goes-inner base x j f g a b = go (j .positive) (j .negative) g b
   where
-    go : (s t : SidePoints) → x < k + (sideCountOf s + sideCountOf t) → k + sideCountOf s ≢ x → Goes x (inP k s ++ inN (k + sideCountOf s) t)
+    go : (s t : SidePoints) → x < base + (sideCountOf s + sideCountOf t) → base + sideCountOf s ≢ x → Goes x (inP base s ++ inN (base + sideCountOf s) t)
     go (Single c d) (Single e h) i l = absurd (omega arith)
-    go (Single c d) (Pair e h y z) i l = hereN {y = k + 1 + 1} (omega arith)
-    go (Pair c d e h) (Single y z) i l = hereP {y = k + 1} (omega arith)
-    go (Pair c d e h) (Pair y z u w) i l = or-later-p x (k + 1) (toN (k + 2 + 1) ∷ []) (λ n. hereN {y = k + 2 + 1} (omega arith))
+    go (Single c d) (Pair e h y z) i l = hereN {y = base + 1 + 1} (omega arith)
+    go (Pair c d e h) (Single y z) i l = hereP {y = base + 1} (omega arith)
+    go (Pair c d e h) (Pair y z u w) i l = or-later-p x (base + 1) (toN (base + 2 + 1) ∷ []) (λ n. hereN {y = base + 2 + 1} (omega arith))
 
-goes-joint : (k x : ℕ) (j : EndpointData) (ms : List Move) → k ≤ x → x < k + jointCount j → Goes x (toP k ∷ toN (beforeN k j) ∷ inner k j ++ ms)
-goes-joint k x j ms f g =
-    or-later-p x k (toN (beforeN k j) ∷ inner k j ++ ms)
-    (λ a. or-later-n x (beforeN k j) (inner k j ++ ms) (λ b. goes-left x (inner k j) ms (goes-inner k x j f g a b)))
+goes-joint : (base x : ℕ) (j : EndpointData) (ms : List Move) → base ≤ x → x < base + jointCount j → Goes x (toP base ∷ toN (beforeN base j) ∷ inner base j ++ ms)
+goes-joint base x j ms f g =
+    or-later-p x base (toN (beforeN base j) ∷ inner base j ++ ms)
+    (λ a. or-later-n x (beforeN base j) (inner base j ++ ms) (λ b. goes-left x (inner base j) ms (goes-inner base x j f g a b)))
 
-goes-moves : (k x : ℕ) (js : List EndpointData) → k ≤ x → x < k + vertexCount js → Goes x (movesOf k js)
+goes-moves : (base x : ℕ) (js : List EndpointData) → base ≤ x → x < base + vertexCount js → Goes x (movesOf base js)
 unfolding movesOf
-goes-moves k x [] f g = absurd (omega (arith, count-none))
-goes-moves k x (j ∷ js) f g = go (decLt x (k + jointCount j)) (goes-moves (k + jointCount j) x js)
+goes-moves base x [] f g = absurd (omega (arith, count-none))
+goes-moves base x (j ∷ js) f g = go (decLt x (base + jointCount j)) (goes-moves (base + jointCount j) x js)
   where
-    go : Dec (x < k + jointCount j) → (k + jointCount j ≤ x → x < k + jointCount j + vertexCount js → Goes x (movesOf (k + jointCount j) js))
-        → Goes x (toP k ∷ toN (beforeN k j) ∷ inner k j ++ movesOf (k + jointCount j) js)
-    go (yes h) on = goes-joint k x j (movesOf (k + jointCount j) js) f h
-    go (no h) on = later (later (goes-right x (inner k j) (movesOf (k + jointCount j) js) (on (omega arith) (omega (arith, count-more j js)))))
+    go : Dec (x < base + jointCount j) → (base + jointCount j ≤ x → x < base + jointCount j + vertexCount js → Goes x (movesOf (base + jointCount j) js))
+        → Goes x (toP base ∷ toN (beforeN base j) ∷ inner base j ++ movesOf (base + jointCount j) js)
+    go (yes h) on = goes-joint base x j (movesOf (base + jointCount j) js) f h
+    go (no h) on = later (later (goes-right x (inner base j) (movesOf (base + jointCount j) js) (on (omega arith) (omega (arith, count-more j js)))))
 
 -- where a move goes, its triangle names
 names-end : (x n p y : ℕ) → y ≡ x → inTri (record { a = n; b = p; c = y }) x ≡ 1
@@ -96,32 +96,32 @@ names-first x n p (toP z ∷ xs) y ys e = here (names-start x n p z e)
 names-first x n p (toN z ∷ xs) y ys e = here (names-start x n p z e)
 
 -- the first joint's vertices, and those of the others
-names-run : (k x : ℕ) (j : EndpointData) (y : ℕ) (ys : List Move) → k ≤ x → (k + jointCount j ≤ x → Goes x (toP y ∷ ys))
-    → Names x (ladder (beforeN k j) k (inner k j ++ toP y ∷ ys))
-names-run k x j y ys f g = go (decLt x (k + jointCount j)) (ℕ-discrete k x) (ℕ-discrete (beforeN k j) x)
+names-run : (base x : ℕ) (j : EndpointData) (y : ℕ) (ys : List Move) → base ≤ x → (base + jointCount j ≤ x → Goes x (toP y ∷ ys))
+    → Names x (ladder (beforeN base j) base (inner base j ++ toP y ∷ ys))
+names-run base x j y ys f g = go (decLt x (base + jointCount j)) (ℕ-discrete base x) (ℕ-discrete (beforeN base j) x)
   where
-    go : Dec (x < k + jointCount j) → Dec (k ≡ x) → Dec (beforeN k j ≡ x) → Names x (ladder (beforeN k j) k (inner k j ++ toP y ∷ ys))
-    go (no h) a b = names x (beforeN k j) k (inner k j ++ toP y ∷ ys) (goes-right x (inner k j) (toP y ∷ ys) (g (omega arith)))
-    go (yes h) (yes a) b = names-first x (beforeN k j) k (inner k j) y ys (inr a)
-    go (yes h) (no a) (yes b) = names-first x (beforeN k j) k (inner k j) y ys (inl b)
-    go (yes h) (no a) (no b) = names x (beforeN k j) k (inner k j ++ toP y ∷ ys) (goes-left x (inner k j) (toP y ∷ ys) (goes-inner k x j f h a b))
+    go : Dec (x < base + jointCount j) → Dec (base ≡ x) → Dec (beforeN base j ≡ x) → Names x (ladder (beforeN base j) base (inner base j ++ toP y ∷ ys))
+    go (no h) a b = names x (beforeN base j) base (inner base j ++ toP y ∷ ys) (goes-right x (inner base j) (toP y ∷ ys) (g (omega arith)))
+    go (yes h) (yes a) b = names-first x (beforeN base j) base (inner base j) y ys (inr a)
+    go (yes h) (no a) (yes b) = names-first x (beforeN base j) base (inner base j) y ys (inl b)
+    go (yes h) (no a) (no b) = names x (beforeN base j) base (inner base j ++ toP y ∷ ys) (goes-left x (inner base j) (toP y ∷ ys) (goes-inner base x j f h a b))
 
 moves-head : (m : ℕ) (i : EndpointData) (js : List EndpointData) → movesOf m (i ∷ js) ≡ toP m ∷ toN (beforeN m i) ∷ inner m i ++ movesOf (m + jointCount i) js
 unfolding movesOf
 moves-head m i js = refl
 
-pub open-named : (k : ℕ) (j i : EndpointData) (js : List EndpointData) (x : ℕ) → k ≤ x → x < k + vertexCount (j ∷ i ∷ js) → Names x (trianglesOf false k (j ∷ i ∷ js))
-open-named k j i js x f g =
-    let m = k + jointCount j in
+pub open-named : (base : ℕ) (j i : EndpointData) (js : List EndpointData) (x : ℕ) → base ≤ x → x < base + vertexCount (j ∷ i ∷ js) → Names x (trianglesOf false base (j ∷ i ∷ js))
+open-named base j i js x f g =
+    let m = base + jointCount j in
     let v = count-more j (i ∷ js) in
-    rw (open-moves k j (i ∷ js), moves-head m i js)
-    (names-run k x j m (toN (beforeN m i) ∷ inner m i ++ movesOf (m + jointCount i) js) f
+    rw (open-moves base j (i ∷ js), moves-head m i js)
+    (names-run base x j m (toN (beforeN m i) ∷ inner m i ++ movesOf (m + jointCount i) js) f
     (λ h. rw (moves-head m i js) at (goes-moves m x (i ∷ js) h (omega arith))))
 
-pub closed-named : (k : ℕ) (j i : EndpointData) (js : List EndpointData) (x : ℕ) → k ≤ x → x < k + vertexCount (j ∷ i ∷ js) → Names x (trianglesOf true k (j ∷ i ∷ js))
-closed-named k j i js x f g =
-    let m = k + jointCount j in
+pub closed-named : (base : ℕ) (j i : EndpointData) (js : List EndpointData) (x : ℕ) → base ≤ x → x < base + vertexCount (j ∷ i ∷ js) → Names x (trianglesOf true base (j ∷ i ∷ js))
+closed-named base j i js x f g =
+    let m = base + jointCount j in
     let v = count-more j (i ∷ js) in
-    rw (closed-moves k j i js, moves-cons m i js (home k j))
-    (names-run k x j m (toN (beforeN m i) ∷ inner m i ++ (movesOf (m + jointCount i) js ++ home k j)) f
-    (λ h. rw (moves-cons m i js (home k j)) at (goes-left x (movesOf m (i ∷ js)) (home k j) (goes-moves m x (i ∷ js) h (omega arith)))))
+    rw (closed-moves base j i js, moves-cons m i js (home base j))
+    (names-run base x j m (toN (beforeN m i) ∷ inner m i ++ (movesOf (m + jointCount i) js ++ home base j)) f
+    (λ h. rw (moves-cons m i js (home base j)) at (goes-left x (movesOf m (i ∷ js)) (home base j) (goes-moves m x (i ∷ js) h (omega arith)))))

@@ -28,31 +28,31 @@ within-append lo hi [] ys f g = g
 within-append lo hi (toP x ∷ xs) ys f g = (f .0, within-append lo hi xs ys (f .1) g)
 within-append lo hi (toN x ∷ xs) ys f g = (f .0, within-append lo hi xs ys (f .1) g)
 
-within-inner : (lo hi k : ℕ) (j : EndpointData) → lo ≤ k → k + jointCount j ≤ hi → Within lo hi (inner k j)
+within-inner : (lo hi base : ℕ) (j : EndpointData) → lo ≤ base → base + jointCount j ≤ hi → Within lo hi (inner base j)
 unfolding inner inP inN
-within-inner lo hi k j f g = go (j .positive) (j .negative) g
+within-inner lo hi base j f g = go (j .positive) (j .negative) g
   where
-    go : (s t : SidePoints) → k + (sideCountOf s + sideCountOf t) ≤ hi → Within lo hi (inP k s ++ inN (k + sideCountOf s) t)
+    go : (s t : SidePoints) → base + (sideCountOf s + sideCountOf t) ≤ hi → Within lo hi (inP base s ++ inN (base + sideCountOf s) t)
     go (Single a b) (Single c d) h = tt
     go (Single a b) (Pair c d e z) h = ((omega arith, omega arith), tt)
     go (Pair a b c d) (Single e z) h = ((omega arith, omega arith), tt)
     go (Pair a b c d) (Pair e z x y) h = ((omega arith, omega arith), ((omega arith, omega arith), tt))
 
-within-home : (lo hi k : ℕ) (j : EndpointData) → lo ≤ k → k + jointCount j ≤ hi → Within lo hi (home k j)
-within-home lo hi k j f g =
+within-home : (lo hi base : ℕ) (j : EndpointData) → lo ≤ base → base + jointCount j ≤ hi → Within lo hi (home base j)
+within-home lo hi base j f g =
     let q = side-few (j .positive) in
     let r = side-few (j .negative) in
     ((omega arith, omega arith), ((omega arith, omega arith), tt))
 
-within-moves : (lo hi k : ℕ) (js : List EndpointData) → lo ≤ k → k + vertexCount js ≤ hi → Within lo hi (movesOf k js)
+within-moves : (lo hi base : ℕ) (js : List EndpointData) → lo ≤ base → base + vertexCount js ≤ hi → Within lo hi (movesOf base js)
 unfolding movesOf
-within-moves lo hi k [] f g = tt
-within-moves lo hi k (j ∷ js) f g =
+within-moves lo hi base [] f g = tt
+within-moves lo hi base (j ∷ js) f g =
     let v = count-more j js in
-    let m = k + jointCount j in
+    let m = base + jointCount j in
     let h : m ≤ hi = omega arith in
-    within-append lo hi (home k j) (inner k j ++ movesOf m js) (within-home lo hi k j f h)
-    (within-append lo hi (inner k j) (movesOf m js) (within-inner lo hi k j f h) (within-moves lo hi m js (omega arith) (omega arith)))
+    within-append lo hi (home base j) (inner base j ++ movesOf m js) (within-home lo hi base j f h)
+    (within-append lo hi (inner base j) (movesOf m js) (within-inner lo hi base j f h) (within-moves lo hi m js (omega arith) (omega arith)))
 
 own : (lo hi : ℕ) (rs : List ℕ) (n p : ℕ) (ms : List Move) → n ≢ p → In lo hi n → In lo hi p → Fresh rs n p ms → Within lo hi ms → AllOwn lo hi (ladder n p ms)
 unfolding ladder
@@ -67,27 +67,27 @@ own lo hi rs n p (toN x ∷ ms) d a b f w = (
 )
 
 -- from the first joint's section on, whatever the other moves are
-own-run : (k : ℕ) (j : EndpointData) (js : List EndpointData) (ms : List Move) → Fresh [] (beforeN k j) k (inner k j ++ ms) → Within k (k + vertexCount (j ∷ js)) ms
-    → AllOwn k (k + vertexCount (j ∷ js)) (ladder (beforeN k j) k (inner k j ++ ms))
-own-run k j js ms f w =
+own-run : (base : ℕ) (j : EndpointData) (js : List EndpointData) (ms : List Move) → Fresh [] (beforeN base j) base (inner base j ++ ms) → Within base (base + vertexCount (j ∷ js)) ms
+    → AllOwn base (base + vertexCount (j ∷ js)) (ladder (beforeN base j) base (inner base j ++ ms))
+own-run base j js ms f w =
     let q = side-few (j .positive) in
     let r = side-few (j .negative) in
     let v = count-more j js in
-    let hi = k + vertexCount (j ∷ js) in
-    own k hi [] (beforeN k j) k (inner k j ++ ms) (λ z. omega arith) (omega arith, omega arith) (omega arith, omega arith) f
-    (within-append k hi (inner k j) ms (within-inner k hi k j (omega arith) (omega arith)) w)
+    let hi = base + vertexCount (j ∷ js) in
+    own base hi [] (beforeN base j) base (inner base j ++ ms) (λ z. omega arith) (omega arith, omega arith) (omega arith, omega arith) f
+    (within-append base hi (inner base j) ms (within-inner base hi base j (omega arith) (omega arith)) w)
 
-pub open-own : (k : ℕ) (j : EndpointData) (js : List EndpointData) → AllOwn k (k + vertexCount (j ∷ js)) (trianglesOf false k (j ∷ js))
-open-own k j js =
+pub open-own : (base : ℕ) (j : EndpointData) (js : List EndpointData) → AllOwn base (base + vertexCount (j ∷ js)) (trianglesOf false base (j ∷ js))
+open-own base j js =
     let v = count-more j js in
-    let m = k + jointCount j in
-    rw (open-moves k j js) (own-run k j js (movesOf m js) (open-fresh k j js) (within-moves k (k + vertexCount (j ∷ js)) m js (omega arith) (omega arith)))
+    let m = base + jointCount j in
+    rw (open-moves base j js) (own-run base j js (movesOf m js) (open-fresh base j js) (within-moves base (base + vertexCount (j ∷ js)) m js (omega arith) (omega arith)))
 
-pub closed-own : (k : ℕ) (j i : EndpointData) (js : List EndpointData) → AllOwn k (k + vertexCount (j ∷ i ∷ js)) (trianglesOf true k (j ∷ i ∷ js))
-closed-own k j i js =
+pub closed-own : (base : ℕ) (j i : EndpointData) (js : List EndpointData) → AllOwn base (base + vertexCount (j ∷ i ∷ js)) (trianglesOf true base (j ∷ i ∷ js))
+closed-own base j i js =
     let v = count-more j (i ∷ js) in
-    let m = k + jointCount j in
-    let hi = k + vertexCount (j ∷ i ∷ js) in
-    rw (closed-moves k j i js)
-    (own-run k j (i ∷ js) (movesOf m (i ∷ js) ++ home k j) (closed-fresh k j i js)
-    (within-append k hi (movesOf m (i ∷ js)) (home k j) (within-moves k hi m (i ∷ js) (omega arith) (omega arith)) (within-home k hi k j (omega arith) (omega arith))))
+    let m = base + jointCount j in
+    let hi = base + vertexCount (j ∷ i ∷ js) in
+    rw (closed-moves base j i js)
+    (own-run base j (i ∷ js) (movesOf m (i ∷ js) ++ home base j) (closed-fresh base j i js)
+    (within-append base hi (movesOf m (i ∷ js)) (home base j) (within-moves base hi m (i ∷ js) (omega arith) (omega arith)) (within-home base hi base j (omega arith) (omega arith))))

@@ -67,8 +67,8 @@ linked n p [] f = tt
 linked n p (toP x ∷ ms) f = chains p n x ms (f .1) .0
 linked n p (toN x ∷ ms) f = chains n x p ms (f .1) .1
 
-pub open-linked : (k : ℕ) (j : EndpointData) (js : List EndpointData) → Linked (trianglesOf false k (j ∷ js))
-open-linked k j js = rw (open-moves k j js) (linked (beforeN k j) k (inner k j ++ movesOf (k + jointCount j) js) (open-fresh k j js))
+pub open-linked : (base : ℕ) (j : EndpointData) (js : List EndpointData) → Linked (trianglesOf false base (j ∷ js))
+open-linked base j js = rw (open-moves base j js) (linked (beforeN base j) base (inner base j ++ movesOf (base + jointCount j) js) (open-fresh base j js))
 
-pub closed-linked : (k : ℕ) (j i : EndpointData) (js : List EndpointData) → Linked (trianglesOf true k (j ∷ i ∷ js))
-closed-linked k j i js = rw (closed-moves k j i js) (linked (beforeN k j) k (inner k j ++ (movesOf (k + jointCount j) (i ∷ js) ++ home k j)) (closed-fresh k j i js))
+pub closed-linked : (base : ℕ) (j i : EndpointData) (js : List EndpointData) → Linked (trianglesOf true base (j ∷ i ∷ js))
+closed-linked base j i js = rw (closed-moves base j i js) (linked (beforeN base j) base (inner base j ++ (movesOf (base + jointCount j) (i ∷ js) ++ home base j)) (closed-fresh base j i js))

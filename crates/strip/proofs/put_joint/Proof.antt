@@ -1,64 +1,48 @@
+-- `strip::put_joint` meets its contract. Assumes nothing.
 use borrow.Author.Needs.{needs}
 use Rattle.strip.proofs.Writing.{lays-behind}
 use Rattle.strip.proofs.put_joint.Statement.{statement}
 use Rattle.strip.proofs.put_joint.Tie as tie
-use Rattle.strip.proofs.put_joint.Reads as reads
-use Rattle.strip.proofs.put_joint.Lts as lts
-use Rattle.strip.proofs.write_joint.Reads as write-joint-reads
 
--- src/lib.rt:69:14
 mul-at : tie.Need-mul-at
 mul-at c = search needs
 
--- src/lib.rt:70:14
 mul-to : tie.Need-mul-to
 mul-to c = search needs
 
--- src/lib.rt:71:17
 mul-write-joint : tie.Need-mul-write-joint
 mul-write-joint c = search needs
 
--- src/lib.rt:71:17
 sub-write-joint : tie.Need-sub-write-joint
 sub-write-joint c = search needs
 
--- src/lib.rt:71:17
 part-write-joint-start : tie.Need-part-write-joint-start
 part-write-joint-start c = search needs
 
--- src/lib.rt:71:17
 part-write-joint-end : tie.Need-part-write-joint-end
 part-write-joint-end c = search needs
 
--- src/lib.rt:71:31
 mul-write-joint-2 : tie.Need-mul-write-joint-2
 mul-write-joint-2 c = search needs
 
--- src/lib.rt:71:31
 sub-write-joint-2 : tie.Need-sub-write-joint-2
 sub-write-joint-2 c = search needs
 
--- src/lib.rt:71:31
 part-write-joint-start-2 : tie.Need-part-write-joint-start-2
 part-write-joint-start-2 c = search needs
 
--- src/lib.rt:71:31
 part-write-joint-end-2 : tie.Need-part-write-joint-end-2
 part-write-joint-end-2 c = search needs
 
--- src/lib.rt:71:5
 write-joint-requires : tie.Need-write-joint-requires
 write-joint-requires c κs = search needs
 
--- src/lib.rt:65:1
 same-length : tie.Need-same-length
 same-length c = search needs
 
--- src/lib.rt:65:1
 same-length-2 : tie.Need-same-length-2
 same-length-2 c = search needs
 
--- src/lib.rt:65:1
 returns : tie.Need-returns
 returns c = lays-behind _ _ _ _ _ _ (c .before .before .before .before .before .before .before .before .before .before .before .pre) (c .before .before .before .before .write-joint .ensures)
 

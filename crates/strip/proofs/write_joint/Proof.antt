@@ -1,17 +1,18 @@
 -- `strip::write_joint` meets its contract. Assumes nothing.
 use borrow.Author.Needs.{needs}
+use native.Mathlib.Omega.{arith}
 use Rattle.strip.proofs.Writing.{numbers-fit, vertices-fit, fit, emits}
 use Rattle.strip.proofs.write_joint.Statement.{statement}
 use Rattle.strip.proofs.write_joint.Tie as tie
 
-add-k : tie.Need-add-k
-add-k c = search needs
+vertex-after-requires : tie.Need-vertex-after-requires
+vertex-after-requires c κs = omega (arith, numbers-fit (c .before .before .pre))
 
 before-requires : tie.Need-before-requires
-before-requires c κs = numbers-fit (c .before .before .before .pre)
+before-requires c κs = rw (c .vertex-after .ensures) (numbers-fit (c .before .before .before .pre))
 
 after-requires : tie.Need-after-requires
-after-requires c κs = numbers-fit (c .before .before .before .before .pre)
+after-requires c κs = rw (c .before .vertex-after .ensures) (numbers-fit (c .before .before .before .before .pre))
 
 choose-requires : tie.Need-choose-requires
 choose-requires c κs = search needs
@@ -21,7 +22,11 @@ write-vertices-requires c κs = vertices-fit (c .before .before .before .before 
 
 write-past-requires : tie.Need-write-past-requires
 write-past-requires c κs =
-    let room = fit (c .before .before .before .before .before .before .before .before .before .before .before .pre) (record { before = c .before .before .before .before .before .before .before .before2 .ensures; after = c .before .before .before .before .before .before .after .ensures; last = c .before .before .before .before .before .choose .ensures }) in
+    let last = c .before .before .before .before .before in
+    let next = last .before .before .before in
+    let before = rw (next .vertex-after .ensures) at (last .before .before .before2 .ensures) in
+    let after = rw (next .vertex-after .ensures) at (last .before .after .ensures) in
+    let room = fit (next .before .before .before .pre) (record { before = before; after = after; last = last .choose .ensures }) in
     (room .triangles, (room .last, room .before, room .after))
 
 same-length : tie.Need-same-length
@@ -32,14 +37,19 @@ same-length-2 c = search needs
 
 returns : tie.Need-returns
 returns c =
-    emits (c .before .before .before .before .before .before .before .before .before .before .before .before .before .before .pre) (record { before = c .before .before .before .before .before .before .before .before .before .before .before2 .ensures; after = c .before .before .before .before .before .before .before .before .before .after .ensures; last = c .before .before .before .before .before .before .before .before .choose .ensures })
-    _ _ (c .before .before .before .before .before .before .write-vertices .ensures) (c .before .before .write-past .ensures .1)
+    let past = c .before .before in
+    let written = past .before .before .before .before in
+    let last = written .before .before in
+    let next = last .before .before .before in
+    let before = rw (next .vertex-after .ensures) at (last .before .before .before2 .ensures) in
+    let after = rw (next .vertex-after .ensures) at (last .before .after .ensures) in
+    emits (next .before .before .before .pre) (record { before = before; after = after; last = last .choose .ensures }) _ _ (written .write-vertices .ensures) (past .write-past .ensures .1)
 
 pub write-joint-spec : {M : Type 1} → statement M
 write-joint-spec =
     tie.close
     (tie.spec
-    add-k
+    vertex-after-requires
     before-requires
     after-requires
     choose-requires

@@ -94,7 +94,7 @@ draw-run-requires c κs =
     let verb = c .before .before .before .before .before .before .before .before .before .before .before .before .before .args .verb in
     let n : names verb ≡ false = sym (c .before .before .before .before .before .before .before .before .before .names-point .ensures) ∙ c .before .before .before .before .before .before .before .before .if1 .left in
     let p = run-place _ _ (currentOf g verb (endpointsOf 0 cs)) _ _ _ _ _ (c .before .before .before .before .before .place-of .ensures) (c .before .before .before .before .place-of2 .ensures) (one-has _ _ _ g verb _ _ _ n (c .before .before .before .before .before .before .before .before .before .before .before .before .before .pre .1)) in
-    ((simp (length-take, length-drop) (omega (arith, c .before .before .before .before .before .before .before .before .before .before .before .before .before .pre .0 .few)), omega (arith, c .before .before .before .before .before .before .before .before .before .before .before .before .before .pre .0 .end, c .before .before .before .before .before .before .before .before .before .before .before .before .before .pre .0 .few)), rw (points-part (g .from) (g .size) cs) p)
+    ((simp (length-take, length-drop) (omega (arith, c .before .before .before .before .before .before .before .before .before .before .before .before .before .pre .0 .few)), omega (arith, c .before .before .before .before .before .before .before .before .before .before .before .before .before .pre .0 .end, c .before .before .before .before .before .before .before .before .before .before .before .before .before .pre .0 .few)), rw (points-part (g .first .0) (g .size) cs) p)
 
 add-t17 : tie.Need-add-t17
 add-t17 c =
@@ -103,7 +103,7 @@ add-t17 c =
     let verb = c .before .before .before .before .before .before .before .before .before .before .before .before .before .before .before .before .before .before .before .args .verb in
     let n : names verb ≡ false = sym (c .before .before .before .before .before .before .before .before .before .before .before .before .before .before .before .names-point .ensures) ∙ c .before .before .before .before .before .before .before .before .before .before .before .before .before .before .if1 .left in
     let p = run-place _ _ (currentOf g verb (endpointsOf 0 cs)) _ _ _ _ _ (c .before .before .before .before .before .before .before .before .before .before .before .place-of .ensures) (c .before .before .before .before .before .before .before .before .before .before .place-of2 .ensures) (one-has _ _ _ g verb _ _ _ n (c .before .before .before .before .before .before .before .before .before .before .before .before .before .before .before .before .before .before .before .pre .1)) in
-    let e = rw (points-part (g .from) (g .size) cs) at (c .before .before .before .before .before .draw-run .ensures) in
+    let e = rw (points-part (g .first .0) (g .size) cs) at (c .before .before .before .before .before .draw-run .ensures) in
     omega (arith, e .count, p .numbers)
 
 add-t19 : tie.Need-add-t19
@@ -113,7 +113,7 @@ add-t19 c =
     let verb = c .before .before .before .before .before .before .before .before .before .before .before .before .before .before .before .before .before .before .before .before .args .verb in
     let n : names verb ≡ false = sym (c .before .before .before .before .before .before .before .before .before .before .before .before .before .before .before .before .names-point .ensures) ∙ c .before .before .before .before .before .before .before .before .before .before .before .before .before .before .before .if1 .left in
     let p = run-place _ _ (currentOf g verb (endpointsOf 0 cs)) _ _ _ _ _ (c .before .before .before .before .before .before .before .before .before .before .before .before .place-of .ensures) (c .before .before .before .before .before .before .before .before .before .before .before .place-of2 .ensures) (one-has _ _ _ g verb _ _ _ n (c .before .before .before .before .before .before .before .before .before .before .before .before .before .before .before .before .before .before .before .before .pre .1)) in
-    let e = rw (points-part (g .from) (g .size) cs) at (c .before .before .before .before .before .before .draw-run .ensures) in
+    let e = rw (points-part (g .first .0) (g .size) cs) at (c .before .before .before .before .before .before .draw-run .ensures) in
     omega (arith, e .faces, p .faces, c .before .before .before .before .before .before .before .before .before .before .before .before .before .before .before .before .before .before .before .before .pre .1 .faces)
 
 same-length : tie.Need-same-length
@@ -129,7 +129,7 @@ returns-2 c =
     let verb = c .before .before .before .before .before .before .before .before .before .before .before .before .before .before .before .before .before .before .before .before .args .verb in
     let n : names verb ≡ false = sym (c .before .before .before .before .before .before .before .before .before .before .before .before .before .before .before .before .names-point .ensures) ∙ c .before .before .before .before .before .before .before .before .before .before .before .before .before .before .before .if1 .left in
     let h = one-has _ _ _ g verb _ _ _ n (c .before .before .before .before .before .before .before .before .before .before .before .before .before .before .before .before .before .before .before .before .pre .1) in
-    let e = rw (points-part (g .from) (g .size) cs) at (c .before .before .before .before .before .before .draw-run .ensures) in
+    let e = rw (points-part (g .first .0) (g .size) cs) at (c .before .before .before .before .before .before .draw-run .ensures) in
     one-puts _ _ _ g verb _ _ _ _ _ _ n (run-puts _ _ (currentOf g verb (endpointsOf 0 cs)) _ _ _ _ _ (c .before .before .before .before .before .before .before .before .before .before .before .before .place-of .ensures) (c .before .before .before .before .before .before .before .before .before .before .before .place-of2 .ensures) h _ _ _ _ e)
 
 pub draw-verb-spec : {M : Type 1} → statement M

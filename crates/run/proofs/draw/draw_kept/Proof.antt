@@ -17,7 +17,7 @@ draw-alone-requires : tie.Need-draw-alone-requires
 draw-alone-requires c κs =
     let d = c .before .before .before in
     let start = d .before .before .before .before .before in
-    rw (c .endpoint-at .ensures, ← alone-shape (start .args .o) (start .args .closed) (start .args .lines) _ (start .args .k) _ (start .pre .0 .0) (d .before .first-far .ensures) (d .if1 .taken)) (start .pre .1)
+    rw (c .endpoint-at .ensures, ← alone-shape (start .args .o) (start .args .closed) (start .args .lines) _ (start .args .first .0) _ (start .pre .0 .0) (d .before .first-far .ensures) (d .if1 .taken)) (start .pre .1)
 
 same-length : tie.Need-same-length
 same-length c = search needs
@@ -30,15 +30,15 @@ returns c =
     let a = c .before .before .before .before in
     let d = a .before .before .before .before in
     let start = d .before .before .before .before .before in
-    rw (alone-shape (start .args .o) (start .args .closed) (start .args .lines) _ (start .args .k) _ (start .pre .0 .0) (d .before .first-far .ensures) (d .if1 .taken), ← a .before .endpoint-at .ensures) (a .draw-alone .ensures)
+    rw (alone-shape (start .args .o) (start .args .closed) (start .args .lines) _ (start .args .first .0) _ (start .pre .0 .0) (d .before .first-far .ensures) (d .if1 .taken), ← a .before .endpoint-at .ensures) (a .draw-alone .ensures)
 
 draw-closed-requires : tie.Need-draw-closed-requires
 draw-closed-requires c κs =
     let d = c .before .before in
     let f = d .before .before in
     let start = f .before .before .before .before in
-    let w : Within (start .args .p .now) (start .args .k) (f .first-far .result) = record { point = omega (arith, d .before .if1 .left); short = start .pre .0 .1; few = start .pre .0 .2 } in
-    (w, rw (d .if2 .taken, far-shape (start .args .o) true (start .args .lines) _ (start .args .k) _ (start .pre .0 .0) (f .first-far .ensures) (d .before .if1 .left)) at (start .pre .1))
+    let w : Within (start .args .p .now) (start .args .first .0) (f .first-far .result) = record { point = omega (arith, d .before .if1 .left); short = start .pre .0 .1; few = start .pre .0 .2 } in
+    (w, rw (d .if2 .taken, far-shape (start .args .o) true (start .args .lines) _ (start .args .first .0) _ (start .pre .0 .0) (f .first-far .ensures) (d .before .if1 .left)) at (start .pre .1))
 
 same-length-3 : tie.Need-same-length-3
 same-length-3 c = search needs
@@ -52,15 +52,15 @@ returns-2 c =
     let d = a .before .before .before in
     let f = d .before .before in
     let start = f .before .before .before .before in
-    rw (d .if2 .taken, far-shape (start .args .o) true (start .args .lines) _ (start .args .k) _ (start .pre .0 .0) (f .first-far .ensures) (d .before .if1 .left)) (a .draw-closed .ensures)
+    rw (d .if2 .taken, far-shape (start .args .o) true (start .args .lines) _ (start .args .first .0) _ (start .pre .0 .0) (f .first-far .ensures) (d .before .if1 .left)) (a .draw-closed .ensures)
 
 draw-open-requires : tie.Need-draw-open-requires
 draw-open-requires c κs =
     let d = c .before .before in
     let f = d .before .before in
     let start = f .before .before .before .before in
-    let w : Within (start .args .p .now) (start .args .k) (f .first-far .result) = record { point = omega (arith, d .before .if1 .left); short = start .pre .0 .1; few = start .pre .0 .2 } in
-    (w, rw (d .if2 .left, far-shape (start .args .o) false (start .args .lines) _ (start .args .k) _ (start .pre .0 .0) (f .first-far .ensures) (d .before .if1 .left)) at (start .pre .1))
+    let w : Within (start .args .p .now) (start .args .first .0) (f .first-far .result) = record { point = omega (arith, d .before .if1 .left); short = start .pre .0 .1; few = start .pre .0 .2 } in
+    (w, rw (d .if2 .left, far-shape (start .args .o) false (start .args .lines) _ (start .args .first .0) _ (start .pre .0 .0) (f .first-far .ensures) (d .before .if1 .left)) at (start .pre .1))
 
 same-length-5 : tie.Need-same-length-5
 same-length-5 c = search needs
@@ -74,7 +74,7 @@ returns-3 c =
     let d = a .before .before .before in
     let f = d .before .before in
     let start = f .before .before .before .before in
-    rw (d .if2 .left, far-shape (start .args .o) false (start .args .lines) _ (start .args .k) _ (start .pre .0 .0) (f .first-far .ensures) (d .before .if1 .left)) (a .draw-open .ensures)
+    rw (d .if2 .left, far-shape (start .args .o) false (start .args .lines) _ (start .args .first .0) _ (start .pre .0 .0) (f .first-far .ensures) (d .before .if1 .left)) (a .draw-open .ensures)
 
 pub draw-kept-spec : {M : Type 1} → statement M
 draw-kept-spec =

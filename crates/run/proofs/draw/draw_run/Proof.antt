@@ -12,7 +12,7 @@ use Rattle.run.proofs.draw.draw_run.Tie as tie
 returns : tie.Need-returns
 returns c =
     let start = c .before .before .before .before in
-    rw (no-points (start .args .o) (start .args .closed) _ (start .args .k) (c .if1 .taken)) (draws-nothing _ _ _ _ _ _)
+    rw (no-points (start .args .o) (start .args .closed) _ (start .args .first .0) (c .if1 .taken)) (draws-nothing _ _ _ _ _ _)
 
 kept-end-requires : tie.Need-kept-end-requires
 kept-end-requires c κs =
@@ -38,7 +38,7 @@ draw-kept-requires c κs =
     let h : 2 * e .kept-end .result ≤ length p = omega (arith, e .kept-end .ensures .within) in
     let l = length-take-le (2 * e .kept-end .result) p h in
     let two : 2 ≤ length p = omega (arith, d .before .if1 .left) in
-    ((omega (arith, l, e .kept-end .ensures .least), omega (arith, l, start .pre .0 .0), start .pre .0 .1), rw (d .if2 .taken, closed-shape (start .args .o) _ p (start .args .k) (e .kept-end .result) refl two (e .kept-end .ensures)) at (start .pre .1))
+    ((omega (arith, l, e .kept-end .ensures .least), omega (arith, l, start .pre .0 .0), start .pre .0 .1), rw (d .if2 .taken, closed-shape (start .args .o) _ p (start .args .first .0) (e .kept-end .result) refl two (e .kept-end .ensures)) at (start .pre .1))
 
 same-length : tie.Need-same-length
 same-length c = search needs
@@ -54,13 +54,13 @@ returns-2 c =
     let start = d .before .before .before .before .before in
     let p = start .args .p .now in
     let two : 2 ≤ length p = omega (arith, d .before .if1 .left) in
-    rw (d .if2 .taken, closed-shape (start .args .o) _ p (start .args .k) (e .kept-end .result) refl two (e .kept-end .ensures)) (a .draw-kept .ensures)
+    rw (d .if2 .taken, closed-shape (start .args .o) _ p (start .args .first .0) (e .kept-end .result) refl two (e .kept-end .ensures)) (a .draw-kept .ensures)
 
 draw-kept-requires-2 : tie.Need-draw-kept-requires-2
 draw-kept-requires-2 c κs =
     let d = c .before .before in
     let start = d .before .before .before .before .before in
-    ((omega (arith, d .before .if1 .left), start .pre .0 .0, start .pre .0 .1), rw (d .if2 .left, open-shape (start .args .o) _ _ (start .args .k) refl) at (start .pre .1))
+    ((omega (arith, d .before .if1 .left), start .pre .0 .0, start .pre .0 .1), rw (d .if2 .left, open-shape (start .args .o) _ _ (start .args .first .0) refl) at (start .pre .1))
 
 same-length-3 : tie.Need-same-length-3
 same-length-3 c = search needs
@@ -73,7 +73,7 @@ returns-3 c =
     let a = c .before .before .before .before in
     let d = a .before .before .before in
     let start = d .before .before .before .before .before in
-    rw (d .if2 .left, open-shape (start .args .o) _ _ (start .args .k) refl) (a .draw-kept2 .ensures)
+    rw (d .if2 .left, open-shape (start .args .o) _ _ (start .args .first .0) refl) (a .draw-kept2 .ensures)
 
 pub draw-run-spec : {M : Type 1} → statement M
 draw-run-spec =

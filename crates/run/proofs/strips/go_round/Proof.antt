@@ -17,7 +17,7 @@ slice-aggregate-visit-all c =
 
 visit-all-requires : tie.Need-visit-all-requires
 visit-all-requires c κs =
-    ((omega (arith, length-take-le 2 (c .before .before .before .before .before .before .args .p .now) (omega (arith, c .before .before .before .before .before .before .pre .0 .point))), omega (arith, c .before .before .before .before .before .before .pre .0 .few)), rw (points-one (c .before .before .before .before .before .before .args .p .now) (c .before .before .before .before .before .before .args .k) (omega (arith, c .before .before .before .before .before .before .pre .0 .point))) (home-has _ _ _ _ _ _ _ (c .before .before .before .before .before .before .pre .1)))
+    ((omega (arith, length-take-le 2 (c .before .before .before .before .before .before .args .p .now) (omega (arith, c .before .before .before .before .before .before .pre .0 .point))), omega (arith, c .before .before .before .before .before .before .pre .0 .few)), rw (points-one (c .before .before .before .before .before .before .args .p .now) (c .before .before .before .before .before .before .args .first .0) (omega (arith, c .before .before .before .before .before .before .pre .0 .point))) (home-has _ _ _ _ _ _ _ (c .before .before .before .before .before .before .pre .1)))
 
 mul-from : tie.Need-mul-from
 mul-from c =
@@ -49,7 +49,7 @@ add-visit-all-2 c =
 
 visit-all-requires-2 : tie.Need-visit-all-requires-2
 visit-all-requires-2 c κs =
-    ((omega (arith, mid-len (2 * c .before .before .before .before .before .before .before .before .before .before .before .before .before .before .args .i) (2 * c .before .before .before .before .before .before .before .before .before .before .before .before .before .before .args .i + 2) (c .before .before .before .before .before .before .before .before .before .before .before .before .before .before .args .p .now) (c .before .before .before .before .before .before .before .before .before .before .before .before .before .before .pre .0 .point)), omega (arith, c .before .before .before .before .before .before .before .before .before .before .before .before .before .before .pre .0 .few, c .before .before .before .before .before .before .before .before .before .before .before .before .before .before .pre .0 .point, c .before .before .before .before .before .before .before .before .before .before .before .before .before .before .pre .0 .short)), rw (points-one-at (c .before .before .before .before .before .before .before .before .before .before .before .before .before .before .args .p .now) (c .before .before .before .before .before .before .before .before .before .before .before .before .before .before .args .k) (c .before .before .before .before .before .before .before .before .before .before .before .before .before .before .args .i) (c .before .before .before .before .before .before .before .before .before .before .before .before .before .before .pre .0 .point)) (on-has _ _ _ _ _ _ _ (c .before .before .before .before .before .before .before .before .before .before .before .before .before .before .pre .1) _ _ _ (rw (points-one (c .before .before .before .before .before .before .before .before .before .before .before .before .before .before .args .p .now) (c .before .before .before .before .before .before .before .before .before .before .before .before .before .before .args .k) (omega (arith, c .before .before .before .before .before .before .before .before .before .before .before .before .before .before .pre .0 .point))) at (c .before .before .before .before .before .before .before .visit-all .ensures))))
+    ((omega (arith, mid-len (2 * c .before .before .before .before .before .before .before .before .before .before .before .before .before .before .args .i) (2 * c .before .before .before .before .before .before .before .before .before .before .before .before .before .before .args .i + 2) (c .before .before .before .before .before .before .before .before .before .before .before .before .before .before .args .p .now) (c .before .before .before .before .before .before .before .before .before .before .before .before .before .before .pre .0 .point)), omega (arith, c .before .before .before .before .before .before .before .before .before .before .before .before .before .before .pre .0 .few, c .before .before .before .before .before .before .before .before .before .before .before .before .before .before .pre .0 .point, c .before .before .before .before .before .before .before .before .before .before .before .before .before .before .pre .0 .short)), rw (points-one-at (c .before .before .before .before .before .before .before .before .before .before .before .before .before .before .args .p .now) (c .before .before .before .before .before .before .before .before .before .before .before .before .before .before .args .first .0) (c .before .before .before .before .before .before .before .before .before .before .before .before .before .before .args .i) (c .before .before .before .before .before .before .before .before .before .before .before .before .before .before .pre .0 .point)) (on-has _ _ _ _ _ _ _ (c .before .before .before .before .before .before .before .before .before .before .before .before .before .before .pre .1) _ _ _ (rw (points-one (c .before .before .before .before .before .before .before .before .before .before .before .before .before .before .args .p .now) (c .before .before .before .before .before .before .before .before .before .before .before .before .before .before .args .first .0) (omega (arith, c .before .before .before .before .before .before .before .before .before .before .before .before .before .before .pre .0 .point))) at (c .before .before .before .before .before .before .before .visit-all .ensures))))
 
 same-length : tie.Need-same-length
 same-length c = search needs
@@ -59,7 +59,7 @@ same-length-2 c = search needs
 
 returns : tie.Need-returns
 returns c =
-    round-puts _ _ _ _ _ _ _ (c .before .before .before .before .before .before .before .before .before .before .before .before .before .before .before .before .before .before .before .before .pre .1) _ _ _ (rw (points-one (c .before .before .before .before .before .before .before .before .before .before .before .before .before .before .before .before .before .before .before .before .args .p .now) (c .before .before .before .before .before .before .before .before .before .before .before .before .before .before .before .before .before .before .before .before .args .k) (omega (arith, c .before .before .before .before .before .before .before .before .before .before .before .before .before .before .before .before .before .before .before .before .pre .0 .point))) at (c .before .before .before .before .before .before .before .before .before .before .before .before .before .visit-all .ensures)) _ _ _ (rw (points-one-at (c .before .before .before .before .before .before .before .before .before .before .before .before .before .before .before .before .before .before .before .before .args .p .now) (c .before .before .before .before .before .before .before .before .before .before .before .before .before .before .before .before .before .before .before .before .args .k) (c .before .before .before .before .before .before .before .before .before .before .before .before .before .before .before .before .before .before .before .before .args .i) (c .before .before .before .before .before .before .before .before .before .before .before .before .before .before .before .before .before .before .before .before .pre .0 .point)) at (c .before .before .before .before .before .visit-all2 .ensures))
+    round-puts _ _ _ _ _ _ _ (c .before .before .before .before .before .before .before .before .before .before .before .before .before .before .before .before .before .before .before .before .pre .1) _ _ _ (rw (points-one (c .before .before .before .before .before .before .before .before .before .before .before .before .before .before .before .before .before .before .before .before .args .p .now) (c .before .before .before .before .before .before .before .before .before .before .before .before .before .before .before .before .before .before .before .before .args .first .0) (omega (arith, c .before .before .before .before .before .before .before .before .before .before .before .before .before .before .before .before .before .before .before .before .pre .0 .point))) at (c .before .before .before .before .before .before .before .before .before .before .before .before .before .visit-all .ensures)) _ _ _ (rw (points-one-at (c .before .before .before .before .before .before .before .before .before .before .before .before .before .before .before .before .before .before .before .before .args .p .now) (c .before .before .before .before .before .before .before .before .before .before .before .before .before .before .before .before .before .before .before .before .args .first .0) (c .before .before .before .before .before .before .before .before .before .before .before .before .before .before .before .before .before .before .before .before .args .i) (c .before .before .before .before .before .before .before .before .before .before .before .before .before .before .before .before .before .before .before .before .pre .0 .point)) at (c .before .before .before .before .before .visit-all2 .ensures))
 
 pub go-round-spec : {M : Type 1} → statement M
 go-round-spec = tie.close (tie.spec slice-aggregate-visit-all visit-all-requires mul-from add-visit-all mul-visit-all sub-visit-all part-visit-all-start part-visit-all-end cast-visit-all add-visit-all-2 visit-all-requires-2 same-length same-length-2 returns)

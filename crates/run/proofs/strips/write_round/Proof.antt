@@ -16,11 +16,11 @@ add-visit-all c = omega (arith, c .before .before .before .before .before .befor
 
 visit-all-requires : tie.Need-visit-all-requires
 visit-all-requires c κs =
-    ((c .before .before .before .before .before .before .before .pre .0 .short, omega (arith, c .before .before .before .before .before .before .before .pre .0 .few)), rw (c .before .before .start .ensures, c .before .before .before .first-leg .ensures) (way-has (c .before .before .before .before .before .before .before .args .write) (c .before .before .before .before .before .before .before .args .o) _ _ _ (c .before .before .before .before .before .before .before .args .base) _ _ (c .before .before .before .before .before .before .before .pre .1)))
+    ((c .before .before .before .before .before .before .before .pre .0 .short, omega (arith, c .before .before .before .before .before .before .before .pre .0 .few)), rw (c .before .before .start .ensures, c .before .before .before .first-leg .ensures) (way-has (c .before .before .before .before .before .before .before .args .write) (c .before .before .before .before .before .before .before .args .o) _ _ _ (c .before .before .before .before .before .before .before .args .base .0) _ _ (c .before .before .before .before .before .before .before .pre .1)))
 
 go-round-requires : tie.Need-go-round-requires
 go-round-requires c κs =
-    (c .before .before .before .before .before .before .before .before .before .before .before .before .before .before .pre .0, round-has (c .before .before .before .before .before .before .before .before .before .before .before .before .before .before .args .write) (c .before .before .before .before .before .before .before .before .before .before .before .before .before .before .args .o) _ _ _ (c .before .before .before .before .before .before .before .before .before .before .before .before .before .before .args .base) _ _ (c .before .before .before .before .before .before .before .before .before .before .before .before .before .before .pre .1) _ _ _ (rw (c .before .before .before .before .before .before .before .before .before .start .ensures, c .before .before .before .before .before .before .before .before .before .before .first-leg .ensures) at (c .before .before .before .before .before .before .visit-all .ensures)))
+    (c .before .before .before .before .before .before .before .before .before .before .before .before .before .before .pre .0, round-has (c .before .before .before .before .before .before .before .before .before .before .before .before .before .before .args .write) (c .before .before .before .before .before .before .before .before .before .before .before .before .before .before .args .o) _ _ _ (c .before .before .before .before .before .before .before .before .before .before .before .before .before .before .args .base .0) _ _ (c .before .before .before .before .before .before .before .before .before .before .before .before .before .before .pre .1) _ _ _ (rw (c .before .before .before .before .before .before .before .before .before .start .ensures, c .before .before .before .before .before .before .before .before .before .before .first-leg .ensures) at (c .before .before .before .before .before .before .visit-all .ensures)))
 
 same-length : tie.Need-same-length
 same-length c = search needs
@@ -30,7 +30,7 @@ same-length-2 c = search needs
 
 returns : tie.Need-returns
 returns c =
-    closed-puts (c .before .before .before .before .before .before .before .before .before .before .before .before .before .before .before .before .before .before .before .args .write) (c .before .before .before .before .before .before .before .before .before .before .before .before .before .before .before .before .before .before .before .args .o) _ _ _ (c .before .before .before .before .before .before .before .before .before .before .before .before .before .before .before .before .before .before .before .args .base) _ _ (c .before .before .before .before .before .before .before .before .before .before .before .before .before .before .before .before .before .before .before .pre .1) _ _ _ (rw (c .before .before .before .before .before .before .before .before .before .before .before .before .before .before .start .ensures, c .before .before .before .before .before .before .before .before .before .before .before .before .before .before .before .first-leg .ensures) at (c .before .before .before .before .before .before .before .before .before .before .before .visit-all .ensures)) _ _ _ (c .before .before .before .before .go-round .ensures)
+    closed-puts (c .before .before .before .before .before .before .before .before .before .before .before .before .before .before .before .before .before .before .before .args .write) (c .before .before .before .before .before .before .before .before .before .before .before .before .before .before .before .before .before .before .before .args .o) _ _ _ (c .before .before .before .before .before .before .before .before .before .before .before .before .before .before .before .before .before .before .before .args .base .0) _ _ (c .before .before .before .before .before .before .before .before .before .before .before .before .before .before .before .before .before .before .before .pre .1) _ _ _ (rw (c .before .before .before .before .before .before .before .before .before .before .before .before .before .before .start .ensures, c .before .before .before .before .before .before .before .before .before .before .before .before .before .before .before .first-leg .ensures) at (c .before .before .before .before .before .before .before .before .before .before .before .visit-all .ensures)) _ _ _ (c .before .before .before .before .go-round .ensures)
 
 pub write-round-spec : {M : Type 1} → statement M
 write-round-spec = tie.close (tie.spec first-leg-requires start-requires add-visit-all visit-all-requires go-round-requires same-length same-length-2 returns)

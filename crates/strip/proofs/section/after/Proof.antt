@@ -1,5 +1,8 @@
 -- `strip::section::after` meets its contract. Assumes nothing.
+use Prim.Native.Nat.{_+_, _-_}
+use mathlib.Core.Path.{_≡_}
 use native.Mathlib.Omega.{arith}
+use Rattle.endpoint.specs.Endpoint.{sideCountOf}
 use Rattle.strip.proofs.Joints.{side-few}
 use borrow.Author.Needs.{needs}
 use Rattle.strip.proofs.section.after.Statement.{statement}
@@ -11,26 +14,31 @@ positive-count-requires c κs = search needs
 negative-count-requires : tie.Need-negative-count-requires
 negative-count-requires c κs = search needs
 
-add-section-of : tie.Need-add-section-of
-add-section-of c = search needs
+add-vertex-after : tie.Need-add-vertex-after
+add-vertex-after c = search needs
 
-add-section-of-2 : tie.Need-add-section-of-2
-add-section-of-2 c = search needs
+sub-vertex-after : tie.Need-sub-vertex-after
+sub-vertex-after c = omega (arith, c .before .positive-count .ensures, side-few (c .before .before .args .j .positive))
 
-sub-section-of : tie.Need-sub-section-of
-sub-section-of c = omega (arith, c .before .positive-count .ensures, side-few (c .before .before .args .j .positive))
+vertex-after-requires : tie.Need-vertex-after-requires
+vertex-after-requires c κs = search needs
 
-add-section-of-3 : tie.Need-add-section-of-3
-add-section-of-3 c = search needs
+sub-vertex-after-2 : tie.Need-sub-vertex-after-2
+sub-vertex-after-2 c = omega (arith, c .before .before .positive-count .ensures, side-few (c .before .before .before .args .j .positive))
 
-sub-section-of-2 : tie.Need-sub-section-of-2
-sub-section-of-2 c = omega (arith, c .before .positive-count .ensures, side-few (c .before .before .args .j .positive))
-
-section-of-requires : tie.Need-section-of-requires
-section-of-requires c κs = search needs
+vertex-after-requires-2 : tie.Need-vertex-after-requires-2
+vertex-after-requires-2 c κs = search needs
 
 returns : tie.Need-returns
-returns c = rw (c .section-of .ensures, c .before .negative-count .ensures, c .before .before .positive-count .ensures)
+returns c =
+    let n = c .before .before in
+    let args = n .before .before .args in
+    let base = args .base .0 in
+    let p = sideCountOf (args .j .positive) in
+    let m = sideCountOf (args .j .negative) in
+    let negative : base + p + m - 1 ≡ base + (p + m - 1) = omega (arith, side-few (args .j .positive)) in
+    let positive : base + p - 1 ≡ base + (p - 1) = omega (arith, side-few (args .j .positive)) in
+    rw (c .vertex-after2 .ensures, c .before .vertex-after .ensures, n .negative-count .ensures, n .before .positive-count .ensures, negative, positive)
 
 pub after-spec : {M : Type 1} → statement M
 after-spec =
@@ -38,10 +46,9 @@ after-spec =
     (tie.spec
     positive-count-requires
     negative-count-requires
-    add-section-of
-    add-section-of-2
-    sub-section-of
-    add-section-of-3
-    sub-section-of-2
-    section-of-requires
+    add-vertex-after
+    sub-vertex-after
+    vertex-after-requires
+    sub-vertex-after-2
+    vertex-after-requires-2
     returns)

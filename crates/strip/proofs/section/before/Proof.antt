@@ -6,15 +6,11 @@ use Rattle.strip.proofs.section.before.Tie as tie
 positive-count-requires : tie.Need-positive-count-requires
 positive-count-requires c κs = search needs
 
-add-section-of : tie.Need-add-section-of
-add-section-of c = search needs
-
-section-of-requires : tie.Need-section-of-requires
-section-of-requires c κs = search needs
+vertex-after-requires : tie.Need-vertex-after-requires
+vertex-after-requires c κs = search needs
 
 returns : tie.Need-returns
-returns c = rw (c .section-of .ensures, c .before .positive-count .ensures)
+returns c = rw (c .vertex-after .ensures, c .before .positive-count .ensures)
 
 pub before-spec : {M : Type 1} → statement M
-before-spec =
-    tie.close (tie.spec positive-count-requires add-section-of section-of-requires returns)
+before-spec = tie.close (tie.spec positive-count-requires vertex-after-requires returns)

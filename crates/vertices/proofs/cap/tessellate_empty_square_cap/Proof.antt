@@ -1,5 +1,6 @@
 -- `vertices::cap::tessellate_empty_square_cap` meets its contract. Assumes nothing.
 use native.Mathlib.Nat.{le-trans}
+use native.Mathlib.Omega.{arith}
 use lib.Dec.{lit≤}
 use Rattle.lists.proofs.Parts.{behind}
 use Rattle.vertices.specs.Cap.{capTrianglesOf}
@@ -11,14 +12,17 @@ use Rattle.vertices.proofs.cap.tessellate_empty_square_cap.Tie as tie
 put-corners-requires : tie.Need-put-corners-requires
 put-corners-requires c κs = search needs
 
-add-t13 : tie.Need-add-t13
-add-t13 c = search needs
+vertex-after-requires : tie.Need-vertex-after-requires
+vertex-after-requires c κs = search needs
 
-add-t15 : tie.Need-add-t15
-add-t15 c = search needs
+vertex-after-requires-2 : tie.Need-vertex-after-requires-2
+vertex-after-requires-2 c κs = search needs
 
 put-triangle-requires : tie.Need-put-triangle-requires
-put-triangle-requires c κs = search needs
+put-triangle-requires c κs =
+    let d = c .before .before in
+    let start = d .before .before .before .before .before .before .before in
+    rw (c .vertex-after2 .ensures, d .vertex-after .ensures) (omega (arith, start .pre))
 
 sub-put-triangle : tie.Need-sub-put-triangle
 sub-put-triangle c = search needs
@@ -29,14 +33,14 @@ part-put-triangle-start c = search needs
 part-put-triangle-end : tie.Need-part-put-triangle-end
 part-put-triangle-end c = search needs
 
-add-t13-2 : tie.Need-add-t13-2
-add-t13-2 c = search needs
-
-add-t15-2 : tie.Need-add-t15-2
-add-t15-2 c = search needs
+vertex-after-requires-3 : tie.Need-vertex-after-requires-3
+vertex-after-requires-3 c κs = search needs
 
 put-triangle-requires-2 : tie.Need-put-triangle-requires-2
-put-triangle-requires-2 c κs = search needs
+put-triangle-requires-2 c κs =
+    let d = c .before .before .before .before .before .before .before in
+    let start = d .before .before .before .before .before .before .before in
+    rw (c .vertex-after3 .ensures, d .vertex-after .ensures) (omega (arith, start .pre))
 
 same-length : tie.Need-same-length
 same-length c = search needs
@@ -48,24 +52,26 @@ returns : tie.Need-returns
 unfolding capTrianglesOf
 returns c =
     let t2 = c .before .before in
-    let t1 = t2 .before .before .before .before in
-    let corners = t1 .before .before .before .before in
+    let t1 = t2 .before .before .before .before .before in
+    let d = t1 .before .before .before in
+    let corners = d .before .before .before in
     let start = corners .before .before .before .before in
-    (corners .put-corners .ensures, behind _ _ _ _ _ 3 (length-triangle _ _ _) (le-trans (lit≤ tt) (start .pre .1)) (t1 .put-triangle .ensures) (t2 .put-triangle2 .ensures))
+    let one = rw (t1 .before .vertex-after2 .ensures, d .vertex-after .ensures) at (t1 .put-triangle .ensures) in
+    let two = rw (t2 .before .vertex-after3 .ensures, d .vertex-after .ensures) at (t2 .put-triangle2 .ensures) in
+    (corners .put-corners .ensures, behind _ _ _ _ _ 3 (length-triangle _ _ _) (le-trans (lit≤ tt) (start .pre .1)) one two)
 
 pub tessellate-empty-square-cap-spec : {M : Type 1} → statement M
 tessellate-empty-square-cap-spec =
     tie.close
     (tie.spec
     put-corners-requires
-    add-t13
-    add-t15
+    vertex-after-requires
+    vertex-after-requires-2
     put-triangle-requires
     sub-put-triangle
     part-put-triangle-start
     part-put-triangle-end
-    add-t13-2
-    add-t15-2
+    vertex-after-requires-3
     put-triangle-requires-2
     same-length
     same-length-2
