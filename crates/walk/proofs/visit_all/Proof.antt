@@ -61,8 +61,7 @@ loop-again c =
     let v = visit .visit .last .0 in
     let t = visit .visit .last .1 .0 in
     let h : 2 * l .i + 2 ≤ length p = omega (arith, at .before .loop-test .taken) in
-    let f : Visits (x .sure) (x .write) (x .o) (l .w) (endpointAt p (x .first .0) (l .i)) (l .v) v (l .t) t r = rw (at .endpoint-at .ensures) at (visit .visit .ensures) in
-    (
+    let f : Visits (x .sure) (x .write) (x .o) (l .w) (endpointAt p (x .first .0) (l .i)) (l .v) v (l .t) t r = rw (at .endpoint-at .ensures) at (visit .visit .ensures) in (
       visit-turn (x .sure) (x .write) _ _ _ _ (start .pre .1) (x .o) p (x .first .0) (l .i) h (l .w) (l .v) (l .t) (l .inv .0) r v t f,
       l .inv .1 ∙ rw (points-at p (x .first .0) (l .i) h, f .leg),
       search (needs, l .inv .2),

@@ -13,19 +13,27 @@ use Rattle.run.proofs.strips.go_round.Tie as tie
 
 slice-aggregate-visit-all : tie.Need-slice-aggregate-visit-all
 slice-aggregate-visit-all c =
-    let h : 2 ≤ length (c .before .before .before .before .before .before .args .p .now) = omega (arith, c .before .before .before .before .before .before .pre .0 .point) in sym (length-take-le 2 (c .before .before .before .before .before .before .args .p .now) h)
+    let start = c .before .before .before .before .before .before in
+    let p = start .args .p .now in
+    let h : 2 ≤ length p = omega (arith, start .pre .0 .point) in
+    sym (length-take-le 2 p h)
 
 visit-all-requires : tie.Need-visit-all-requires
 visit-all-requires c κs =
-    ((omega (arith, length-take-le 2 (c .before .before .before .before .before .before .args .p .now) (omega (arith, c .before .before .before .before .before .before .pre .0 .point))), omega (arith, c .before .before .before .before .before .before .pre .0 .few)), rw (points-one (c .before .before .before .before .before .before .args .p .now) (c .before .before .before .before .before .before .args .first .0) (omega (arith, c .before .before .before .before .before .before .pre .0 .point))) (home-has _ _ _ _ _ _ _ (c .before .before .before .before .before .before .pre .1)))
+    let start = c .before .before .before .before .before .before in
+    let p = start .args .p .now in
+    let h : 2 ≤ length p = omega (arith, start .pre .0 .point) in
+    ((omega (arith, length-take-le 2 p h), omega (arith, start .pre .0 .few)), rw (points-one p (start .args .first .0) h) (home-has _ _ _ _ _ _ _ (start .pre .1)))
 
 mul-from : tie.Need-mul-from
 mul-from c =
-    omega (arith, c .before .before .before .before .before .before .before .before .before .before .before .pre .0 .point, c .before .before .before .before .before .before .before .before .before .before .before .pre .0 .short)
+    let within = c .before .before .before .before .before .before .before .before .before .before .before .pre .0 in
+    omega (arith, within .point, within .short)
 
 add-visit-all : tie.Need-add-visit-all
 add-visit-all c =
-    omega (arith, c .before .before .before .before .before .before .before .before .before .before .before .before .before .pre .0 .point, c .before .before .before .before .before .before .before .before .before .before .before .before .before .pre .0 .short)
+    let within = c .before .before .before .before .before .before .before .before .before .before .before .before .before .pre .0 in
+    omega (arith, within .point, within .short)
 
 mul-visit-all : tie.Need-mul-visit-all
 mul-visit-all c = search needs
@@ -39,17 +47,23 @@ part-visit-all-start c = omega (arith, c .before .before .before .before .before
 part-visit-all-end : tie.Need-part-visit-all-end
 part-visit-all-end c = omega (arith, c .before .before .before .before .before .before .before .before .before .before .before .before .before .pre .0 .point)
 
-cast-visit-all : tie.Need-cast-visit-all
-cast-visit-all c =
-    omega (arith, c .before .before .before .before .before .before .before .before .before .before .before .before .before .before .pre .0 .point, c .before .before .before .before .before .before .before .before .before .before .before .before .before .before .pre .0 .short)
-
-add-visit-all-2 : tie.Need-add-visit-all-2
-add-visit-all-2 c =
-    omega (arith, c .before .before .before .before .before .before .before .before .before .before .before .before .before .before .pre .0 .point, c .before .before .before .before .before .before .before .before .before .before .before .before .before .before .pre .0 .short, c .before .before .before .before .before .before .before .before .before .before .before .before .before .before .pre .0 .few)
+endpoint-after-requires : tie.Need-endpoint-after-requires
+endpoint-after-requires c κs =
+    let within = c .before .before .before .before .before .before .before .before .before .before .before .before .before .before .pre .0 in
+    omega (arith, within .point, within .short, within .few)
 
 visit-all-requires-2 : tie.Need-visit-all-requires-2
 visit-all-requires-2 c κs =
-    ((omega (arith, mid-len (2 * c .before .before .before .before .before .before .before .before .before .before .before .before .before .before .args .i) (2 * c .before .before .before .before .before .before .before .before .before .before .before .before .before .before .args .i + 2) (c .before .before .before .before .before .before .before .before .before .before .before .before .before .before .args .p .now) (c .before .before .before .before .before .before .before .before .before .before .before .before .before .before .pre .0 .point)), omega (arith, c .before .before .before .before .before .before .before .before .before .before .before .before .before .before .pre .0 .few, c .before .before .before .before .before .before .before .before .before .before .before .before .before .before .pre .0 .point, c .before .before .before .before .before .before .before .before .before .before .before .before .before .before .pre .0 .short)), rw (points-one-at (c .before .before .before .before .before .before .before .before .before .before .before .before .before .before .args .p .now) (c .before .before .before .before .before .before .before .before .before .before .before .before .before .before .args .first .0) (c .before .before .before .before .before .before .before .before .before .before .before .before .before .before .args .i) (c .before .before .before .before .before .before .before .before .before .before .before .before .before .before .pre .0 .point)) (on-has _ _ _ _ _ _ _ (c .before .before .before .before .before .before .before .before .before .before .before .before .before .before .pre .1) _ _ _ (rw (points-one (c .before .before .before .before .before .before .before .before .before .before .before .before .before .before .args .p .now) (c .before .before .before .before .before .before .before .before .before .before .before .before .before .before .args .first .0) (omega (arith, c .before .before .before .before .before .before .before .before .before .before .before .before .before .before .pre .0 .point))) at (c .before .before .before .before .before .before .before .visit-all .ensures))))
+    let home = c .before .before .before .before .before .before .before .before in
+    let start = home .before .before .before .before .before .before .before in
+    let within = start .pre .0 in
+    let p = start .args .p .now in
+    let first = start .args .first .0 in
+    let i = start .args .i in
+    let h : 2 ≤ length p = omega (arith, within .point) in
+    let few = mid-len (2 * i) (2 * i + 2) p (within .point) in
+    let has = on-has _ _ _ _ _ _ _ (start .pre .1) _ _ _ (rw (points-one p first h) at (home .visit-all .ensures)) in
+    rw (c .endpoint-after .ensures) ((omega (arith, few), omega (arith, within .few, within .point, within .short)), rw (points-one-at p first i (within .point)) has)
 
 same-length : tie.Need-same-length
 same-length c = search needs
@@ -59,7 +73,30 @@ same-length-2 c = search needs
 
 returns : tie.Need-returns
 returns c =
-    round-puts _ _ _ _ _ _ _ (c .before .before .before .before .before .before .before .before .before .before .before .before .before .before .before .before .before .before .before .before .pre .1) _ _ _ (rw (points-one (c .before .before .before .before .before .before .before .before .before .before .before .before .before .before .before .before .before .before .before .before .args .p .now) (c .before .before .before .before .before .before .before .before .before .before .before .before .before .before .before .before .before .before .before .before .args .first .0) (omega (arith, c .before .before .before .before .before .before .before .before .before .before .before .before .before .before .before .before .before .before .before .before .pre .0 .point))) at (c .before .before .before .before .before .before .before .before .before .before .before .before .before .visit-all .ensures)) _ _ _ (rw (points-one-at (c .before .before .before .before .before .before .before .before .before .before .before .before .before .before .before .before .before .before .before .before .args .p .now) (c .before .before .before .before .before .before .before .before .before .before .before .before .before .before .before .before .before .before .before .before .args .first .0) (c .before .before .before .before .before .before .before .before .before .before .before .before .before .before .before .before .before .before .before .before .args .i) (c .before .before .before .before .before .before .before .before .before .before .before .before .before .before .before .before .before .before .before .before .pre .0 .point)) at (c .before .before .before .before .before .visit-all2 .ensures))
+    let on = c .before .before .before .before .before in
+    let home = on .before .before .before .before .before .before .before .before .before in
+    let start = home .before .before .before .before .before .before .before in
+    let p = start .args .p .now in
+    let first = start .args .first .0 in
+    let h : 2 ≤ length p = omega (arith, start .pre .0 .point) in
+    let back = rw (points-one p first h) at (home .visit-all .ensures) in
+    let ahead = rw (on .before .endpoint-after .ensures, points-one-at p first (start .args .i) (start .pre .0 .point)) at (on .visit-all2 .ensures) in
+    round-puts _ _ _ _ _ _ _ (start .pre .1) _ _ _ back _ _ _ ahead
 
 pub go-round-spec : {M : Type 1} → statement M
-go-round-spec = tie.close (tie.spec slice-aggregate-visit-all visit-all-requires mul-from add-visit-all mul-visit-all sub-visit-all part-visit-all-start part-visit-all-end cast-visit-all add-visit-all-2 visit-all-requires-2 same-length same-length-2 returns)
+go-round-spec =
+    tie.close
+    (tie.spec
+    slice-aggregate-visit-all
+    visit-all-requires
+    mul-from
+    add-visit-all
+    mul-visit-all
+    sub-visit-all
+    part-visit-all-start
+    part-visit-all-end
+    endpoint-after-requires
+    visit-all-requires-2
+    same-length
+    same-length-2
+    returns)
