@@ -19,6 +19,9 @@ returns : tie.Need-returns
 unfolding endedOf
 returns c = rw (← c .before .names-point .ensures, c .if1 .taken) (puts-none _ _ _ _ _)
 
+cast-i : tie.Need-cast-i
+cast-i c = search needs
+
 mul-from : tie.Need-mul-from
 mul-from c = search needs
 
@@ -29,28 +32,28 @@ mul-to : tie.Need-mul-to
 mul-to c = search needs
 
 mul-place-of : tie.Need-mul-place-of
-mul-place-of c = omega (arith, c .before .before .before .before .before .before .before .pre .1 .numbers)
+mul-place-of c = omega (arith, c .before .before .before .before .before .before .before .before .pre .1 .numbers)
 
 place-of-requires : tie.Need-place-of-requires
 place-of-requires c κs = search needs
 
 mul-place-of-2 : tie.Need-mul-place-of-2
-mul-place-of-2 c = omega (arith, c .before .before .before .before .before .before .before .before .pre .1 .faces)
+mul-place-of-2 c = omega (arith, c .before .before .before .before .before .before .before .before .before .pre .1 .faces)
 
 place-of-requires-2 : tie.Need-place-of-requires-2
 place-of-requires-2 c κs = search needs
 
 mul-draw-run : tie.Need-mul-draw-run
 mul-draw-run c =
-    let h = v-place _ _ _ _ _ _ (c .before .before .before .before .before .before .before .before .before .pre .1) _ (c .before .place-of .ensures) in
+    let h = v-place _ _ _ _ _ _ (c .before .before .before .before .before .before .before .before .before .before .pre .1) _ (c .before .place-of .ensures) in
     search (needs, h)
 
 sub-draw-run : tie.Need-sub-draw-run
-sub-draw-run c = v-place _ _ _ _ _ _ (c .before .before .before .before .before .before .before .before .before .pre .1) _ (c .before .place-of .ensures)
+sub-draw-run c = v-place _ _ _ _ _ _ (c .before .before .before .before .before .before .before .before .before .before .pre .1) _ (c .before .place-of .ensures)
 
 part-draw-run-start : tie.Need-part-draw-run-start
 part-draw-run-start c =
-    let h = v-place _ _ _ _ _ _ (c .before .before .before .before .before .before .before .before .before .pre .1) _ (c .before .place-of .ensures) in
+    let h = v-place _ _ _ _ _ _ (c .before .before .before .before .before .before .before .before .before .before .pre .1) _ (c .before .place-of .ensures) in
     search (needs, h)
 
 part-draw-run-end : tie.Need-part-draw-run-end
@@ -58,15 +61,15 @@ part-draw-run-end c = search needs
 
 mul-draw-run-2 : tie.Need-mul-draw-run-2
 mul-draw-run-2 c =
-    let h = t-place _ _ _ _ _ _ (c .before .before .before .before .before .before .before .before .before .before .pre .1) _ (c .before .place-of2 .ensures) in
+    let h = t-place _ _ _ _ _ _ (c .before .before .before .before .before .before .before .before .before .before .before .pre .1) _ (c .before .place-of2 .ensures) in
     search (needs, h)
 
 sub-draw-run-2 : tie.Need-sub-draw-run-2
-sub-draw-run-2 c = t-place _ _ _ _ _ _ (c .before .before .before .before .before .before .before .before .before .before .pre .1) _ (c .before .place-of2 .ensures)
+sub-draw-run-2 c = t-place _ _ _ _ _ _ (c .before .before .before .before .before .before .before .before .before .before .before .pre .1) _ (c .before .place-of2 .ensures)
 
 part-draw-run-start-2 : tie.Need-part-draw-run-start-2
 part-draw-run-start-2 c =
-    let h = t-place _ _ _ _ _ _ (c .before .before .before .before .before .before .before .before .before .before .pre .1) _ (c .before .place-of2 .ensures) in
+    let h = t-place _ _ _ _ _ _ (c .before .before .before .before .before .before .before .before .before .before .before .pre .1) _ (c .before .place-of2 .ensures) in
     search (needs, h)
 
 part-draw-run-end-2 : tie.Need-part-draw-run-end-2
@@ -84,37 +87,52 @@ part-draw-run-start-3 c = search needs
 part-draw-run-end-3 : tie.Need-part-draw-run-end-3
 part-draw-run-end-3 c = search needs
 
-cast-draw-run : tie.Need-cast-draw-run
-cast-draw-run c = search needs
+cast-t35 : tie.Need-cast-t35
+cast-t35 c = omega (arith, c .before .before .before .before .before .before .before .before .before .before .before .before .before .pre .1 .numbers)
 
 draw-run-requires : tie.Need-draw-run-requires
 draw-run-requires c κs =
-    let g = c .before .before .before .before .before .before .before .before .before .before .before .before .before .args .g in
-    let cs = c .before .before .before .before .before .before .before .before .before .before .before .before .before .args .coords .now in
-    let verb = c .before .before .before .before .before .before .before .before .before .before .before .before .before .args .verb in
-    let n : names verb ≡ false = sym (c .before .before .before .before .before .before .before .before .before .names-point .ensures) ∙ c .before .before .before .before .before .before .before .before .if1 .left in
-    let p = run-place _ _ (currentOf g verb (endpointsOf 0 cs)) _ _ _ _ _ (c .before .before .before .before .before .place-of .ensures) (c .before .before .before .before .place-of2 .ensures) (one-has _ _ _ g verb _ _ _ n (c .before .before .before .before .before .before .before .before .before .before .before .before .before .pre .1)) in
-    ((simp (length-take, length-drop) (omega (arith, c .before .before .before .before .before .before .before .before .before .before .before .before .before .pre .0 .few)), omega (arith, c .before .before .before .before .before .before .before .before .before .before .before .before .before .pre .0 .end, c .before .before .before .before .before .before .before .before .before .before .before .before .before .pre .0 .few)), rw (points-part (g .first .0) (g .size) cs) p)
-
-add-t17 : tie.Need-add-t17
-add-t17 c =
-    let g = c .before .before .before .before .before .before .before .before .before .before .before .before .before .before .before .before .before .before .before .args .g in
-    let cs = c .before .before .before .before .before .before .before .before .before .before .before .before .before .before .before .before .before .before .before .args .coords .now in
-    let verb = c .before .before .before .before .before .before .before .before .before .before .before .before .before .before .before .before .before .before .before .args .verb in
-    let n : names verb ≡ false = sym (c .before .before .before .before .before .before .before .before .before .before .before .before .before .before .before .names-point .ensures) ∙ c .before .before .before .before .before .before .before .before .before .before .before .before .before .before .if1 .left in
-    let p = run-place _ _ (currentOf g verb (endpointsOf 0 cs)) _ _ _ _ _ (c .before .before .before .before .before .before .before .before .before .before .before .place-of .ensures) (c .before .before .before .before .before .before .before .before .before .before .place-of2 .ensures) (one-has _ _ _ g verb _ _ _ n (c .before .before .before .before .before .before .before .before .before .before .before .before .before .before .before .before .before .before .before .pre .1)) in
-    let e = rw (points-part (g .first .0) (g .size) cs) at (c .before .before .before .before .before .draw-run .ensures) in
-    omega (arith, e .count, p .numbers)
+    let places = c .before .before .before in
+    let test = places .before .before .before .before .before in
+    let start = test .before .before .before .before .before in
+    let inside = start .pre .0 in
+    let g = start .args .g in
+    let cs = start .args .coords .now in
+    let verb = start .args .verb in
+    let n : names verb ≡ false = sym (test .before .names-point .ensures) ∙ test .if1 .left in
+    let h = one-has _ _ _ g verb _ _ _ n (start .pre .1) in
+    let p = run-place _ _ (currentOf g verb (endpointsOf 0 cs)) _ _ _ _ _ (places .before .place-of .ensures) (places .place-of2 .ensures) h in
+    ((simp (length-take, length-drop) (omega (arith, inside .few)), omega (arith, inside .end, inside .few)), rw (points-part (g .first .0) (g .size) cs) p)
 
 add-t19 : tie.Need-add-t19
 add-t19 c =
-    let g = c .before .before .before .before .before .before .before .before .before .before .before .before .before .before .before .before .before .before .before .before .args .g in
-    let cs = c .before .before .before .before .before .before .before .before .before .before .before .before .before .before .before .before .before .before .before .before .args .coords .now in
-    let verb = c .before .before .before .before .before .before .before .before .before .before .before .before .before .before .before .before .before .before .before .before .args .verb in
-    let n : names verb ≡ false = sym (c .before .before .before .before .before .before .before .before .before .before .before .before .before .before .before .before .names-point .ensures) ∙ c .before .before .before .before .before .before .before .before .before .before .before .before .before .before .before .if1 .left in
-    let p = run-place _ _ (currentOf g verb (endpointsOf 0 cs)) _ _ _ _ _ (c .before .before .before .before .before .before .before .before .before .before .before .before .place-of .ensures) (c .before .before .before .before .before .before .before .before .before .before .before .place-of2 .ensures) (one-has _ _ _ g verb _ _ _ n (c .before .before .before .before .before .before .before .before .before .before .before .before .before .before .before .before .before .before .before .before .pre .1)) in
-    let e = rw (points-part (g .first .0) (g .size) cs) at (c .before .before .before .before .before .before .draw-run .ensures) in
-    omega (arith, e .faces, p .faces, c .before .before .before .before .before .before .before .before .before .before .before .before .before .before .before .before .before .before .before .before .pre .1 .faces)
+    let run = c .before .before .before .before .before in
+    let places = run .before .before .before .before in
+    let test = places .before .before .before .before .before in
+    let start = test .before .before .before .before .before in
+    let g = start .args .g in
+    let cs = start .args .coords .now in
+    let verb = start .args .verb in
+    let n : names verb ≡ false = sym (test .before .names-point .ensures) ∙ test .if1 .left in
+    let h = one-has _ _ _ g verb _ _ _ n (start .pre .1) in
+    let p = run-place _ _ (currentOf g verb (endpointsOf 0 cs)) _ _ _ _ _ (places .before .place-of .ensures) (places .place-of2 .ensures) h in
+    let e = rw (points-part (g .first .0) (g .size) cs) at (run .draw-run .ensures) in
+    omega (arith, e .count, p .numbers)
+
+add-t21 : tie.Need-add-t21
+add-t21 c =
+    let run = c .before .before .before .before .before .before in
+    let places = run .before .before .before .before in
+    let test = places .before .before .before .before .before in
+    let start = test .before .before .before .before .before in
+    let g = start .args .g in
+    let cs = start .args .coords .now in
+    let verb = start .args .verb in
+    let n : names verb ≡ false = sym (test .before .names-point .ensures) ∙ test .if1 .left in
+    let h = one-has _ _ _ g verb _ _ _ n (start .pre .1) in
+    let p = run-place _ _ (currentOf g verb (endpointsOf 0 cs)) _ _ _ _ _ (places .before .place-of .ensures) (places .place-of2 .ensures) h in
+    let e = rw (points-part (g .first .0) (g .size) cs) at (run .draw-run .ensures) in
+    omega (arith, e .faces, p .faces, start .pre .1 .faces)
 
 same-length : tie.Need-same-length
 same-length c = search needs
@@ -124,13 +142,18 @@ same-length-2 c = search needs
 
 returns-2 : tie.Need-returns-2
 returns-2 c =
-    let g = c .before .before .before .before .before .before .before .before .before .before .before .before .before .before .before .before .before .before .before .before .args .g in
-    let cs = c .before .before .before .before .before .before .before .before .before .before .before .before .before .before .before .before .before .before .before .before .args .coords .now in
-    let verb = c .before .before .before .before .before .before .before .before .before .before .before .before .before .before .before .before .before .before .before .before .args .verb in
-    let n : names verb ≡ false = sym (c .before .before .before .before .before .before .before .before .before .before .before .before .before .before .before .before .names-point .ensures) ∙ c .before .before .before .before .before .before .before .before .before .before .before .before .before .before .before .if1 .left in
-    let h = one-has _ _ _ g verb _ _ _ n (c .before .before .before .before .before .before .before .before .before .before .before .before .before .before .before .before .before .before .before .before .pre .1) in
-    let e = rw (points-part (g .first .0) (g .size) cs) at (c .before .before .before .before .before .before .draw-run .ensures) in
-    one-puts _ _ _ g verb _ _ _ _ _ _ n (run-puts _ _ (currentOf g verb (endpointsOf 0 cs)) _ _ _ _ _ (c .before .before .before .before .before .before .before .before .before .before .before .before .place-of .ensures) (c .before .before .before .before .before .before .before .before .before .before .before .place-of2 .ensures) h _ _ _ _ e)
+    let run = c .before .before .before .before .before .before in
+    let places = run .before .before .before .before in
+    let test = places .before .before .before .before .before in
+    let start = test .before .before .before .before .before in
+    let g = start .args .g in
+    let cs = start .args .coords .now in
+    let verb = start .args .verb in
+    let n : names verb ≡ false = sym (test .before .names-point .ensures) ∙ test .if1 .left in
+    let h = one-has _ _ _ g verb _ _ _ n (start .pre .1) in
+    let e = rw (points-part (g .first .0) (g .size) cs) at (run .draw-run .ensures) in
+    let r = run-puts _ _ (currentOf g verb (endpointsOf 0 cs)) _ _ _ _ _ (places .before .place-of .ensures) (places .place-of2 .ensures) h _ _ _ _ e in
+    one-puts _ _ _ g verb _ _ _ _ _ _ n r
 
 pub draw-verb-spec : {M : Type 1} → statement M
 draw-verb-spec =
@@ -138,6 +161,7 @@ draw-verb-spec =
     (tie.spec
     names-point-requires
     returns
+    cast-i
     mul-from
     add-to
     mul-to
@@ -157,10 +181,10 @@ draw-verb-spec =
     sub-draw-run-3
     part-draw-run-start-3
     part-draw-run-end-3
-    cast-draw-run
+    cast-t35
     draw-run-requires
-    add-t17
     add-t19
+    add-t21
     same-length
     same-length-2
     returns-2)
