@@ -37,12 +37,12 @@ drop-in zero ps i = i
 drop-in (suc n) [] i = tt
 drop-in (suc n) (p ∷ ps) i = drop-in n ps (i .1)
 
-points-in : (k : ℕ) (cs : List Float) → ((i : ℕ) → i < length cs → coordinateIn (getD cs i nan) ≡ true) → AllIn (endpointsOf k cs)
+points-in : (first : ℕ) (cs : List Float) → ((i : ℕ) → i < length cs → coordinateIn (getD cs i nan) ≡ true) → AllIn (endpointsOf first cs)
 unfolding endpointsOf
-points-in k [] f = tt
-points-in k (x ∷ []) f = tt
-points-in k (x ∷ y ∷ cs) f =
-    (record { x = coordinate x (f 0 (omega arith)); y = coordinate y (f 1 (omega arith)) }, points-in (k + 1) cs (λ i h. f (suc (suc i)) (omega arith)))
+points-in first [] f = tt
+points-in first (x ∷ []) f = tt
+points-in first (x ∷ y ∷ cs) f =
+    (record { x = coordinate x (f 0 (omega arith)); y = coordinate y (f 1 (omega arith)) }, points-in (first + 1) cs (λ i h. f (suc (suc i)) (omega arith)))
 
 -- ---- its runs
 abbrev RunsIn : List (Run Endpoint) → Type 0
