@@ -25,14 +25,20 @@ module _ {A : Type 0} where
   over-next (u ∷ vs) v [] h = refl
   over-next (u ∷ vs) v (x ∷ xs) h = ap (λ (l : List A). u ∷ l) (over-next vs v xs (omega arith))
 
-  -- what a writer of three and a writer of five elements leaves
-  pub over-three : (a b c : A) (xs : List A) → 3 ≤ length xs → set (set (set xs 0 a) 1 b) 2 c ≡ over (a ∷ b ∷ c ∷ []) xs
+  -- what a writer of one, two, three or five elements leaves
+  pub over-one : (a : A) (xs : List A) → 1 ≤ length xs → set xs 0 a ≡ over (a ∷ []) xs
   unfolding over
+  over-one a xs h = over-next [] a xs h
+
+  pub over-two : (a b : A) (xs : List A) → 2 ≤ length xs → set (set xs 0 a) 1 b ≡ over (a ∷ b ∷ []) xs
+  over-two a b xs h =
+      let h1 : 1 ≤ length xs = omega arith in
+      rw (over-one a xs h1, over-next (a ∷ []) b xs h)
+
+  pub over-three : (a b c : A) (xs : List A) → 3 ≤ length xs → set (set (set xs 0 a) 1 b) 2 c ≡ over (a ∷ b ∷ c ∷ []) xs
   over-three a b c xs h =
-      let h0 : 0 < length xs = omega arith in
-      let h1 : 1 < length xs = omega arith in
-      let h2 : 2 < length xs = omega arith in
-      rw (over-next [] a xs h0, over-next (a ∷ []) b xs h1, over-next (a ∷ b ∷ []) c xs h2)
+      let h2 : 2 ≤ length xs = omega arith in
+      rw (over-two a b xs h2, over-next (a ∷ b ∷ []) c xs h)
 
   pub over-five : (a b c d e : A) (xs : List A) → 5 ≤ length xs → set (set (set (set (set xs 0 a) 1 b) 2 c) 3 d) 4 e ≡ over (a ∷ b ∷ c ∷ d ∷ e ∷ []) xs
   over-five a b c d e xs h =

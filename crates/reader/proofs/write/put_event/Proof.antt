@@ -1,8 +1,8 @@
 -- `reader::write::put_event` meets its contract. Assumes nothing.
 use borrow.Author.Needs.{needs}
 use mathlib.Core.Path.{sym}
-use Rattle.lists.proofs.Laws.{over-none}
-use Rattle.reader.proofs.Putting.{put-one, put-two, verb-room, coords-room}
+use Rattle.lists.proofs.Laws.{over-none, over-one, over-two}
+use Rattle.reader.proofs.Putting.{verb-room, coords-room}
 use Rattle.reader.proofs.write.put_event.Statement.{statement}
 use Rattle.reader.proofs.write.put_event.Tie as tie
 
@@ -76,7 +76,7 @@ same-length-2 c = search needs
 returns-2 : tie.Need-returns-2
 returns-2 c =
     let e = c .before .e .given in
-    (rw (e .1) (put-one _ _ (verb-room (e .1) (c .before .before .before .pre .0))), rw (e .1) (put-two _ _ _ (coords-room (e .1) (c .before .before .before .pre .1))))
+    (rw (e .1) (over-one _ _ (verb-room (e .1) (c .before .before .before .pre .0))), rw (e .1) (over-two _ _ _ (coords-room (e .1) (c .before .before .before .pre .1))))
 
 same-length-3 : tie.Need-same-length-3
 same-length-3 c = search needs
@@ -87,7 +87,7 @@ same-length-4 c = search needs
 returns-3 : tie.Need-returns-3
 returns-3 c =
     let e = c .before .e2 .given in
-    (rw (e .1) (put-one _ _ (verb-room (e .1) (c .before .before .before .pre .0))), rw (e .1) (put-two _ _ _ (coords-room (e .1) (c .before .before .before .pre .1))))
+    (rw (e .1) (over-one _ _ (verb-room (e .1) (c .before .before .before .pre .0))), rw (e .1) (over-two _ _ _ (coords-room (e .1) (c .before .before .before .pre .1))))
 
 same-length-5 : tie.Need-same-length-5
 same-length-5 c = search needs
@@ -95,7 +95,7 @@ same-length-5 c = search needs
 returns-4 : tie.Need-returns-4
 returns-4 c =
     let e = c .enum-told2 .given .1 in
-    (rw e (put-one _ _ (verb-room e (c .before .before .pre .0))), rw e (sym (over-none _)))
+    (rw e (over-one _ _ (verb-room e (c .before .before .pre .0))), rw e (sym (over-none _)))
 
 same-length-6 : tie.Need-same-length-6
 same-length-6 c = search needs
@@ -103,7 +103,7 @@ same-length-6 c = search needs
 returns-5 : tie.Need-returns-5
 returns-5 c =
     let e = c .enum-told3 .given .1 in
-    (rw e (put-one _ _ (verb-room e (c .before .before .pre .0))), rw e (sym (over-none _)))
+    (rw e (over-one _ _ (verb-room e (c .before .before .pre .0))), rw e (sym (over-none _)))
 
 returns-6 : tie.Need-returns-6
 returns-6 c = (rw (c .enum-told4 .given .1) (sym (over-none _)), rw (c .enum-told4 .given .1) (sym (over-none _)))

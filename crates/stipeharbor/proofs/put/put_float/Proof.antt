@@ -1,5 +1,5 @@
 -- `stipeharbor::put::put_float` meets its contract. Assumes nothing.
-use Rattle.reader.proofs.Putting.{put-one}
+use Rattle.lists.proofs.Laws.{over-one}
 use Rattle.stipeharbor.proofs.Putting.{put-none}
 use borrow.Author.Needs.{needs}
 use Rattle.stipeharbor.proofs.put.put_float.Statement.{statement}
@@ -15,7 +15,7 @@ same-length : tie.Need-same-length
 same-length c = search needs
 
 returns-2 : tie.Need-returns-2
-returns-2 c = put-one _ _ (c .if1 .left)
+returns-2 c = over-one _ _ (c .if1 .left)
 
 pub put-float-spec : {M : Type 1} → statement M
 put-float-spec = tie.close (tie.spec returns slice-write-list same-length returns-2)

@@ -1,5 +1,5 @@
 -- `stipeharbor::put::put_vector` meets its contract. Assumes nothing.
-use Rattle.reader.proofs.Putting.{put-two}
+use Rattle.lists.proofs.Laws.{over-two}
 use Rattle.stipeharbor.proofs.Putting.{put-none, put-first}
 use borrow.Author.Needs.{needs}
 use Rattle.stipeharbor.proofs.put.put_vector.Statement.{statement}
@@ -24,7 +24,7 @@ same-length-2 : tie.Need-same-length-2
 same-length-2 c = search needs
 
 returns-3 : tie.Need-returns-3
-returns-3 c = put-two _ _ _ (c .if2 .left)
+returns-3 c = over-two _ _ _ (c .if2 .left)
 
 pub put-vector-spec : {M : Type 1} → statement M
 put-vector-spec =
