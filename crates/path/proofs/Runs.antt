@@ -1,16 +1,15 @@
 -- A path whose verbs are well placed is its runs: each a begin, lines and an end, with a point to its begin and to each line. Assumes nothing.
-use Prim.Native.Nat.{ℕ, zero, suc, _+_, _-_, _<_}
+use Prim.Native.Nat.{ℕ, zero, suc, _+_, _-_}
 use mathlib.Core.Path.{_≡_, refl, sym, ap, _∙_}
 use mathlib.Core.Bool.{Bool, true, false, true≢false}
-use mathlib.Core.List.{List, [], _∷_, _++_, List·Memᴰ, List·Memᴰ·not-nil, List·Memᴰ·cases-cons}
-use mathlib.Core.Logic.{⊎-elim}
+use mathlib.Core.List.{List, [], _∷_, _++_}
 use native.Mathlib.Omega.{arith}
 use native.Mathlib.Numerals.{add-one}
 use lib.ListN.{length, take, drop, replicate, take-append-drop, length-drop}
 use lib.Seq.{length-take-le}
 use borrow.Author.Tests.{ne-eqb}
 use Rattle.path.specs.Verbs.{begin, line, names, named, placed, firstMisplaced, endsInside, pointCount}
-use Rattle.path.specs.Runs.{endOf, Formed, done, begins, goes, ends, Run, runsFrom, verbsOf, pointsOf}
+use Rattle.path.specs.Runs.{endOf, Formed, done, begins, goes, ends, runsFrom, verbsOf, pointsOf}
 use Rattle.path.proofs.Placing.{placed-unknown}
 
 abbrev inRun : ℕ → Bool
@@ -97,16 +96,7 @@ module _ {A : Type 0} where
   points-from (ends {k} {vs} closed f) ps l =
       rw (run-end (suc k) closed vs ps, points-from f (drop (suc k) ps) (rest k closed vs ps l)) (take-append-drop (suc k) ps)
 
-  first-from : {n : ℕ} {vs : List ℕ} → Formed n vs → (ps : List A) → length ps ≡ n + pointCount vs → (r : Run A) → List·Memᴰ r (runsFrom n vs ps) → 0 < length (r .points)
-  unfolding names named pointCount runsFrom
-  first-from done ps l r m = absurd (List·Memᴰ·not-nil m)
-  first-from (begins f) ps l r m = first-from f ps (omega arith) r m
-  first-from (goes f) ps l r m = first-from f ps (omega arith) r (rw add-one at m)
-  first-from (ends {k} {vs} closed f) ps l r m =
-      ⊎-elim (λ q. omega (arith, ap (λ (x : Run A). length (x .points)) q, own k closed vs ps l)) (λ n. first-from f (drop (suc k) ps) (rest k closed vs ps l) r n)
-      (List·Memᴰ·cases-cons (rw (run-end (suc k) closed vs ps) at m))
-
-  -- the runs of a path with well placed verbs and as many points as these name: its verbs, in order; its points, in order; no run without a point
+  -- the runs of a path with well placed verbs and as many points as these name: its verbs, in order; its points, in order
   module _ (vs : List ℕ) (f : Formed 0 vs) (ps : List A) (l : length ps ≡ pointCount vs) where
     pub runs-verbs : verbsOf (runsFrom 0 vs ps) ≡ vs
     unfolding begun
@@ -114,6 +104,3 @@ module _ {A : Type 0} where
 
     pub runs-points : pointsOf (runsFrom 0 vs ps) ≡ ps
     runs-points = points-from f ps (omega arith)
-
-    pub runs-begun : (r : Run A) → List·Memᴰ r (runsFrom 0 vs ps) → 0 < length (r .points)
-    runs-begun = first-from f ps (omega arith)
