@@ -12,11 +12,10 @@ use Rattle.endpoint.specs.declared.Endpoint.{Endpoint}
 use Rattle.path.specs.Verbs.{endClosed, names}
 use Rattle.path.specs.Coordinates.{coordinateIn}
 use Rattle.path.specs.Path.{Sound}
-use Rattle.path.specs.Options.{strokeOf}
+use Rattle.path.specs.Options.{accepting, strokeOf}
 use Rattle.path.specs.Runs.{Run, runsFrom}
 use Rattle.path.specs.declared.options.Options.{Options}
 use Rattle.path.specs.declared.options.Stroke.{Stroke}
-use Rattle.path.specs.declared.options.StrokeAnswer.the-variants as stroke
 use Rattle.path.proofs.Laws.{within-at}
 use Rattle.points.specs.Points.{endpointsOf}
 use Rattle.course.specs.Kept.{keptPoints}
@@ -65,7 +64,7 @@ edges-none o h [] i = tt
 edges-none o h (r ∷ rs) i = both-none (legsOf (r .closed) (o .«half_width») (keptPoints (r .closed) (r .points))) (meshEdges o rs) (run-none (o .«half_width») h (r .closed) (r .points) (i .0)) (edges-none o h rs (i .1))
 
 -- ---- "5: an edge whose offset points on a side have f32 squared distance below 2^-40": there is none
-pub no-short : (options : Options) (o : Stroke) (verbs : List ℕ) (coords : List Float) → strokeOf options ≡ stroke.Stroke o → Sound verbs coords
+pub no-short : (options : Options) (o : Stroke) (verbs : List ℕ) (coords : List Float) → strokeOf options ≡ accepting o → Sound verbs coords
     → firstShort (meshEdges o (runsOf verbs coords)) ≡ length (meshEdges o (runsOf verbs coords))
 no-short options o verbs coords e s =
     none-short (meshEdges o (runsOf verbs coords)) (edges-none o (half-width options o e) (runsOf verbs coords) (runs-in 0 verbs (endpointsOf 0 coords) (points-in 0 coords (within-at coords (s .within)))))

@@ -1,6 +1,6 @@
 -- What the checks of a call tell of its numbers: an accepted coordinate is finite and at most 32,768 in size, and the half width of accepted
 -- options is finite and at most 8,192. Assumes nothing.
-use mathlib.Core.Path.{_≡_, refl, sym, subst}
+use mathlib.Core.Path.{_≡_, refl, sym, ap, subst}
 use Prim.Native.Nat.{ℕ, _*_, _≤_, _<_}
 use native.Mathlib.Nat.{le-trans, le-of-eq, le-of-lt, mul-right-comm, mul-le-mul-right, le-of-mul-le-mul-right, mul-pos}
 use native.Mathlib.Omega.{arith}
@@ -13,10 +13,10 @@ use lib.Ieee.Scale.{finite}
 use lib.Ieee.Positive.{num, den, den-pos, between, positive-finite, le→cross}
 use Rattle.plane.specs.Normal.{pick}
 use Rattle.path.specs.Coordinates.{coordinateIn}
-use Rattle.path.specs.Options.{within, widthIn, limitIn, joinIn, capIn, inRange, preparedOf, strokeOf}
+use Rattle.path.specs.Options.{within, widthIn, limitIn, joinIn, capIn, inRange, preparedOf, accepting, refusing, strokeOf}
 use Rattle.path.specs.declared.options.Options.{Options}
 use Rattle.path.specs.declared.options.Stroke.{Stroke}
-use Rattle.path.specs.declared.options.StrokeAnswer.the-variants as answer
+use Rattle.path.specs.declared.options.StrokeAnswer.{StrokeAnswer}
 use Rattle.far.proofs.Rounding.{rounded, one, one-pos}
 use Rattle.far.proofs.Values.{sign, own, mul-round}
 use Rattle.far.proofs.Sums.{Within, made}
@@ -87,9 +87,9 @@ halved w f l =
     small : (x y : ℕ) → x ≤ 16384 * y → x * 1 ≤ 8192 * (y * 2)
     small x y h = omega arith
 
-accepted : (t : Bool) (s o : Stroke) → pick t (answer.Stroke s) answer.Refused ≡ answer.Stroke o → (t ≡ true) × (s ≡ o)
-accepted true s o e = (refl, cc)
-accepted false s o e = let z : _≡_ {A = ℕ} 0 1 = cc in absurd (omega arith)
+accepted : (t : Bool) (s o : Stroke) → pick t (accepting s) refusing ≡ accepting o → (t ≡ true) × (s ≡ o)
+accepted true s o e = (refl, ap (λ (a : StrokeAnswer). a .stroke) e)
+accepted false s o e = let n = ap (λ (a : StrokeAnswer). a .number) e in absurd (omega arith)
 
 width-in : (o : Options) → inRange o ≡ true → T (widthIn (o .width))
 unfolding inRange
@@ -108,7 +108,7 @@ prepared : (o : Options) → preparedOf o .«half_width» ≡ mul binary32 (o .w
 unfolding preparedOf
 prepared o = refl
 
-pub half-width : (options : Options) (o : Stroke) → strokeOf options ≡ answer.Stroke o → Half (o .«half_width»)
+pub half-width : (options : Options) (o : Stroke) → strokeOf options ≡ accepting o → Half (o .«half_width»)
 unfolding strokeOf
 half-width options o e =
     let a = accepted (inRange options) (preparedOf options) o e in

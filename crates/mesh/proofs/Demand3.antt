@@ -6,6 +6,7 @@ use native.Mathlib.Omega.{arith}
 use borrow.Author.Tests.{lt-ltb, le-ltb}
 use lib.Ieee.{Float}
 use lib.ListN.{length}
+use Rattle.refusals.specs.Numbers.{numberOf, accepted, vertexRoom, triangleRoom}
 use Rattle.endpoint.specs.declared.Endpoint.{Endpoint}
 use Rattle.lists.specs.Over.{over}
 use Rattle.lists.proofs.Laws.{take-over, drop-over}
@@ -21,33 +22,33 @@ use Rattle.course.specs.Leg.{firstShort}
 use Rattle.strip.specs.Triangle.{flatT}
 use Rattle.strip.proofs.Triangles.{length-flatT}
 use Rattle.run.specs.Run.{shapeCount}
-use Rattle.run.proofs.Facts.{run-covers, run-numbers}
+use Rattle.run.proofs.Facts.{run-covers, run-counts}
 use Rattle.drive.specs.Runs.{runsOf, drawnOf, meshVertices, meshCount, meshTriangles, meshEdges}
 use Rattle.drive.proofs.Runs.{length-vertices}
-use Rattle.mesh.specs.Answer.{judgedOf}
+use Rattle.far.proofs.Path.{no-short}
+use Rattle.mesh.specs.Answer.{withCounts, judgedOf}
 use Rattle.mesh.specs.Demand3.{EarnsNone, AllStand, Written, Rooms, Demand3}
 use Rattle.mesh.specs.Mesh.{Outcome, refused, acceptedOf, strokedOf, outcomeOf}
-use Rattle.mesh.specs.declared.answer.Meshed.the-variants.{Mesh, VertexRoom, TriangleRoom}
 
 -- ---- run by run
 pub all-stand : (o : Stroke) (k : ℕ) (rs : List (Run Endpoint)) → AllStand o k rs
 all-stand o k [] = tt
 all-stand o k (r ∷ rs) =
-    (record { counts = run-numbers o (r .closed) k (r .points); covers = run-covers o (r .closed) k (r .points) }, all-stand o (k + shapeCount (drawnOf o r)) rs)
+    (record { counts = run-counts o (r .closed) k (r .points); covers = run-covers o (r .closed) k (r .points) }, all-stand o (k + shapeCount (drawnOf o r)) rs)
 
 -- ---- rooms, of an accepted path
 module _ (o : Stroke) (rs : List (Run Endpoint)) (v : List Float) (t : List ℕ) (e : firstShort (meshEdges o rs) ≡ length (meshEdges o rs)) where
   none-short : length (meshEdges o rs) ≤ firstShort (meshEdges o rs)
   none-short = omega (arith, e)
 
-  no-vertices : length v < 5 * meshCount o rs → acceptedOf v t o rs ≡ refused v t (VertexRoom (meshCount o rs) (length (meshTriangles o 0 rs)))
+  no-vertices : length v < 5 * meshCount o rs → acceptedOf v t o rs ≡ refused v t (withCounts (numberOf vertexRoom) (meshCount o rs) (length (meshTriangles o 0 rs)))
   unfolding acceptedOf judgedOf
   no-vertices h =
       let a : length v / 5 < meshCount o rs = omega arith in
       rw (le-ltb _ _ none-short, lt-ltb (length v / 5) (meshCount o rs) a)
 
   no-triangles : 5 * meshCount o rs ≤ length v → length t < 3 * length (meshTriangles o 0 rs)
-      → acceptedOf v t o rs ≡ refused v t (TriangleRoom (meshCount o rs) (length (meshTriangles o 0 rs)))
+      → acceptedOf v t o rs ≡ refused v t (withCounts (numberOf triangleRoom) (meshCount o rs) (length (meshTriangles o 0 rs)))
   unfolding acceptedOf judgedOf
   no-triangles h g =
       let a : meshCount o rs ≤ length v / 5 = omega arith in
@@ -55,7 +56,7 @@ module _ (o : Stroke) (rs : List (Run Endpoint)) (v : List Float) (t : List ℕ)
       rw (le-ltb _ _ none-short, le-ltb (length v / 5) (meshCount o rs) a, lt-ltb (length t / 3) (length (meshTriangles o 0 rs)) b)
 
   abbrev whole : Outcome
-  whole = record { answer = Mesh (meshCount o rs) (length (meshTriangles o 0 rs)); vertices = over (meshVertices o rs) v; triangles = over (flatT (meshTriangles o 0 rs)) t }
+  whole = record { answer = withCounts (numberOf accepted) (meshCount o rs) (length (meshTriangles o 0 rs)); vertices = over (meshVertices o rs) v; triangles = over (flatT (meshTriangles o 0 rs)) t }
 
   module _ (h : 5 * meshCount o rs ≤ length v) (g : 3 * length (meshTriangles o 0 rs) ≤ length t) where
     is-whole : acceptedOf v t o rs ≡ whole
@@ -92,5 +93,5 @@ demand-3 verbs coords options o e v t =
       verbs-are = runs-verbs verbs f (endpointsOf 0 coords) (omega arith);
       points-are = runs-points verbs f (endpointsOf 0 coords) (omega arith);
       each = all-stand o 0 (runsOf verbs coords);
-      rooms = rw (e .within, e .accepted) (rooms-decide o (runsOf verbs coords) v t (e .long));
+      rooms = rw (e .within, e .accepted) (rooms-decide o (runsOf verbs coords) v t (no-short options o verbs coords (e .within) s));
     }

@@ -8,6 +8,7 @@ use lib.Dec.{ltb, eqb}
 use lib.Ieee.{Float}
 use lib.ListN.{length, take, drop, length-append, length-take, length-drop}
 use borrow.Author.Tests.{le-ltb, ltb-false}
+use Rattle.refusals.specs.Numbers.{numberOf, accepted, vertexRoom, triangleRoom}
 use Rattle.plane.specs.Normal.{pick}
 use Rattle.endpoint.specs.declared.Endpoint.{Endpoint}
 use Rattle.path.specs.Path.{Sound}
@@ -23,11 +24,11 @@ use Rattle.drive.specs.Passes.{Paired, undrawn, Has, Puts}
 use Rattle.drive.specs.Runs.{runsOf, meshCount, meshTriangles, meshEdges}
 use Rattle.drive.proofs.Runs.{runs-bounded}
 use Rattle.far.proofs.Path.{no-short}
-use Rattle.mesh.specs.Answer.{isMesh, roomedOf, judgedOf, Plenty}
+use Rattle.mesh.specs.Answer.{withCounts, meshAnswerOf, isMesh, roomedOf, judgedOf, Plenty}
 use Rattle.mesh.specs.Mesh.{roomFor, acceptedOf}
 use Rattle.mesh.specs.Parts.{Prepared, Counted}
-use Rattle.mesh.specs.declared.answer.Meshed.{Meshed}
-use Rattle.mesh.specs.declared.answer.Meshed.the-variants.{Mesh, VertexRoom, TriangleRoom}
+use Rattle.mesh.specs.declared.answer.MeshAnswer.{MeshAnswer}
+use Rattle.mesh.specs.declared.answer.Meshed.the-variants.{Mesh}
 
 pub sound-paired : (vs : List ℕ) (cs : List Float) → Sound vs cs → Paired vs cs
 sound-paired vs cs s = record { points = s .paired; few = omega (arith, s .paired, s .few, count-le vs) }
@@ -69,7 +70,8 @@ module _ (o : Stroke) (vs : List ℕ) (cs : List Float) (s : Sound vs cs) where
 roomed-room : (n m nv nt : ℕ) → isMesh (roomedOf n m nv nt) ≡ true → (n ≤ nv) × (m ≤ nt)
 roomed-room n m nv nt e = go (ltb nv n) refl (ltb nt m) refl e
   where
-    go : (b : Bool) → ltb nv n ≡ b → (d : Bool) → ltb nt m ≡ d → isMesh (cond b (VertexRoom n m) (cond d (TriangleRoom n m) (Mesh n m))) ≡ true → (n ≤ nv) × (m ≤ nt)
+    go : (b : Bool) → ltb nv n ≡ b → (d : Bool) → ltb nt m ≡ d → isMesh (cond b (withCounts (numberOf vertexRoom) n m) (cond d (withCounts (numberOf triangleRoom) n m) (withCounts (numberOf accepted) n m))) ≡ true
+        → (n ≤ nv) × (m ≤ nt)
     go true p d q f = absurd (false≢true f)
     go false p true q f = absurd (false≢true f)
     go false p false q f = (ltb-false nv n p, ltb-false nt m q)
@@ -95,7 +97,7 @@ module _ (o : Stroke) (vs : List ℕ) (cs : List Float) (s : Sound vs cs) (p : P
     plenty-has = room-has o vs cs s v t v-room t-room
 
     pub plenty-drawn : (v' : List Float) (t' : List ℕ) (d : Drawn) → Puts true o undrawn (runsOf vs cs) v v' t t' d
-        → record { answer = Mesh (d .vertices) (d .triangles); vertices = v'; triangles = t' } ≡ acceptedOf v t o (runsOf vs cs)
+        → record { answer = meshAnswerOf (Mesh (d .vertices) (d .triangles)); vertices = v'; triangles = t' } ≡ acceptedOf v t o (runsOf vs cs)
     unfolding acceptedOf
     plenty-drawn v' t' d e =
         let n : d .vertices ≡ meshCount o (runsOf vs cs) = omega (arith, e .count) in
@@ -105,7 +107,7 @@ module _ (o : Stroke) (vs : List ℕ) (cs : List Float) (s : Sound vs cs) (p : P
 
   -- ---- counted first: c is what it needs, and a the answer
   module _ (c : Drawn) (v1 : List Float) (t1 : List ℕ) (k : Counted o (runsOf vs cs) v v1 t t1 c)
-      (a : Meshed) (j : a ≡ roomedOf (c .vertices) (c .triangles) (length v / 5) (length t / 3)) where
+      (a : MeshAnswer) (j : a ≡ roomedOf (c .vertices) (c .triangles) (length v / 5) (length t / 3)) where
     answer-is : a ≡ roomFor v t o (runsOf vs cs)
     answer-is = j ∙ rw (k .count, k .faces) (sym room-is)
 

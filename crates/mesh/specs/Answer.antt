@@ -1,7 +1,7 @@
 -- The mesh call's answer. Assumes nothing.
 use Prim.Native.Nat.{ℕ, _*_, _≤_}
-use mathlib.Core.Bool.{Bool, true, false, cond}
-use lib.Dec.{ltb}
+use mathlib.Core.Bool.{Bool, cond}
+use lib.Dec.{ltb, eqb}
 use Rattle.refusals.specs.Numbers.{numberOf, accepted, outOfRange, tooManyVerbs, misplacedVerb, badCoordinate, shortEdge, vertexRoom, triangleRoom}
 use Rattle.drive.specs.Runs.{Count}
 use Rattle.mesh.specs.declared.answer.Meshed.{Meshed}
@@ -16,7 +16,7 @@ withCounts number n m = record { number = number; place = 0; vertices = n; trian
 abbrev pub withPlace : ℕ → ℕ → MeshAnswer
 withPlace number place = record { number = number; place = place; vertices = 0; triangles = 0 }
 
--- the number, the place and both counts
+-- what each case of `tessellate`'s answer stands for: the number, the place and both counts
 abbrev pub meshAnswerOf : Meshed → MeshAnswer
 meshAnswerOf (Mesh n m) = withCounts (numberOf accepted) n m
 meshAnswerOf OutOfRange = withPlace (numberOf outOfRange) 0
@@ -27,23 +27,20 @@ meshAnswerOf (ShortEdge i) = withPlace (numberOf shortEdge) i
 meshAnswerOf (VertexRoom n m) = withCounts (numberOf vertexRoom) n m
 meshAnswerOf (TriangleRoom n m) = withCounts (numberOf triangleRoom) n m
 
-abbrev pub isMesh : Meshed → Bool
-isMesh (Mesh n m) = true
-isMesh OutOfRange = false
-isMesh TooManyVerbs = false
-isMesh (Verb i) = false
-isMesh (Coordinate i) = false
-isMesh (ShortEdge i) = false
-isMesh (VertexRoom n m) = false
-isMesh (TriangleRoom n m) = false
+-- "0: accepted"
+abbrev pub isMesh : MeshAnswer → Bool
+isMesh a = eqb (a .number) (numberOf accepted)
 
 -- Refusals 6 and 7, in their order, of n vertices and m triangles: "too few vertex places", "too few triangle places"
-abbrev pub roomedOf : ℕ → ℕ → ℕ → ℕ → Meshed
-roomedOf n m vertexPlaces trianglePlaces = cond (ltb vertexPlaces n) (VertexRoom n m) (cond (ltb trianglePlaces m) (TriangleRoom n m) (Mesh n m))
+abbrev pub roomedOf : ℕ → ℕ → ℕ → ℕ → MeshAnswer
+roomedOf n m vertexPlaces trianglePlaces =
+    cond (ltb vertexPlaces n) (withCounts (numberOf vertexRoom) n m)
+    (cond (ltb trianglePlaces m) (withCounts (numberOf triangleRoom) n m) (withCounts (numberOf accepted) n m))
 
 -- Refusals 5, 6 and 7, in their order, for an accepted path: a short edge, or too little room
-unfoldable pub judgedOf : Count → ℕ → ℕ → Meshed
-judgedOf c vertexPlaces trianglePlaces = cond (ltb (c .short) (c .legs)) (ShortEdge (c .short)) (roomedOf (c .vertices) (c .triangles) vertexPlaces trianglePlaces)
+unfoldable pub judgedOf : Count → ℕ → ℕ → MeshAnswer
+judgedOf c vertexPlaces trianglePlaces =
+    cond (ltb (c .short) (c .legs)) (withPlace (numberOf shortEdge) (c .short)) (roomedOf (c .vertices) (c .triangles) vertexPlaces trianglePlaces)
 
 -- Room for the most that so many coordinates can need, two of them to a point (drive's `runs-bounded`)
 pub record Plenty (r : Rooms) (coords : ℕ) : Type 0 where

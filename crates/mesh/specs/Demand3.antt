@@ -1,40 +1,41 @@
--- Demand 3, in the mission's words, "for every path that earns none of refusals 1 to 5". That it holds is proofs/Demand3.antt. Assumes nothing.
+-- Demand 3, in the mission's words, "for every path that earns none of refusals 1 to 5": none of 1 to 4, since 5 is earned by no such path (`no-short` of
+-- crates/far). That it holds is proofs/Demand3.antt. Assumes nothing.
 use Prim.Native.Nat.{ℕ, _+_, _*_, _≤_, _<_}
 use mathlib.Core.Path.{_≡_}
 use mathlib.Core.List.{List, [], _∷_}
+use lib.Dec.{ltb}
 use lib.Ieee.{Float}
 use lib.ListN.{length, take, drop}
+use Rattle.refusals.specs.Numbers.{numberOf, accepted, vertexRoom, triangleRoom}
 use Rattle.endpoint.specs.declared.Endpoint.{Endpoint}
-use Rattle.path.specs.Options.{strokeOf}
+use Rattle.path.specs.Options.{accepting, strokeOf}
 use Rattle.path.specs.Path.{checkedOf}
 use Rattle.path.specs.Runs.{Run, verbsOf, pointsOf}
-use Rattle.path.specs.declared.Checked.the-variants.{Accepted}
 use Rattle.path.specs.declared.options.Options.{Options}
 use Rattle.path.specs.declared.options.Stroke.{Stroke}
-use Rattle.path.specs.declared.options.StrokeAnswer.the-variants as stroke
 use Rattle.points.specs.Points.{endpointsOf}
 use Rattle.course.specs.Joint.{jointsOf}
 use Rattle.course.specs.Kept.{keptPoints}
-use Rattle.course.specs.Leg.{firstShort}
 use Rattle.strip.specs.Facts.{pairSides}
 use Rattle.strip.specs.Triangle.{flatT}
-use Rattle.run.specs.Facts.{Numbers, Covers}
-use Rattle.run.specs.Run.{shapeCount, shapeTriangles}
-use Rattle.drive.specs.Runs.{runsOf, drawnOf, meshVertices, meshCount, meshTriangles, meshEdges}
+use Rattle.run.specs.Facts.{Counts, Covers}
+use Rattle.run.specs.Run.{drawsCap, shapeCount, shapeTriangles}
+use Rattle.drive.specs.Runs.{runsOf, drawnOf, meshVertices, meshCount, meshTriangles}
+use Rattle.mesh.specs.Answer.{withCounts}
 use Rattle.mesh.specs.Mesh.{Outcome, refused, outcomeOf}
-use Rattle.mesh.specs.declared.answer.Meshed.the-variants.{Mesh, VertexRoom, TriangleRoom}
 
--- none of refusals 1 to 5 is earned
+-- none of refusals 1 to 4 is earned, and the options come to o
 pub record EarnsNone (verbs : List ℕ) (coords : List Float) (options : Options) (o : Stroke) : Type 0 where
-  pub within : strokeOf options ≡ stroke.Stroke o
-  pub accepted : checkedOf verbs coords ≡ Accepted
-  pub long : firstShort (meshEdges o (runsOf verbs coords)) ≡ length (meshEdges o (runsOf verbs coords))
+  pub within : strokeOf options ≡ accepting o
+  pub accepted : checkedOf verbs coords .number ≡ numberOf accepted
 
--- "Counts follow from the join rules alone": n points kept and d pair sides; "each triangle names three different vertices of its run, every vertex is
--- named, each triangle but a run's first shares exactly two vertices with the one before." A run whose vertices are numbered from k.
+-- "Counts follow from the join rules alone": by the points kept, their pair sides and, where one is kept, whether it draws the empty cap (a run has a line verb
+-- where it has more than one point); "each triangle names three different vertices of its run, every vertex is named, each triangle but a run's first shares
+-- exactly two vertices with the one before." A run whose vertices are numbered from k.
 pub record RunStands (o : Stroke) (k : ℕ) (r : Run Endpoint) : Type 0 where
   pub counts : let kept = keptPoints (r .closed) (r .points) in
-      2 ≤ length kept → Numbers (r .closed) (length kept) (pairSides (jointsOf (r .closed) o kept)) (shapeCount (drawnOf o r)) (length (shapeTriangles (r .closed) k (drawnOf o r)))
+      Counts (r .closed) (drawsCap o (r .closed) (ltb 1 (length (r .points)))) (length kept) (pairSides (jointsOf (r .closed) o kept))
+      (shapeCount (drawnOf o r)) (length (shapeTriangles (r .closed) k (drawnOf o r)))
   pub covers : Covers k (k + shapeCount (drawnOf o r)) (shapeTriangles (r .closed) k (drawnOf o r))
 
 -- run by run, vertex numbers going on over all runs
@@ -44,7 +45,7 @@ AllStand o k (r ∷ rs) = RunStands o k r × AllStand o (k + shapeCount (drawnOf
 
 -- what a call leaves where there is room: the answer 0 with both counts, "exactly so many are written", and nothing behind them
 pub record Written (o : Stroke) (rs : List (Run Endpoint)) (v : List Float) (t : List ℕ) (out : Outcome) : Type 0 where
-  pub answer : out .answer ≡ Mesh (meshCount o rs) (length (meshTriangles o 0 rs))
+  pub answer : out .answer ≡ withCounts (numberOf accepted) (meshCount o rs) (length (meshTriangles o 0 rs))
   pub vertices : take (5 * meshCount o rs) (out .vertices) ≡ meshVertices o rs
   pub triangles : take (3 * length (meshTriangles o 0 rs)) (out .triangles) ≡ flatT (meshTriangles o 0 rs)
   pub vertices-behind : drop (5 * meshCount o rs) (out .vertices) ≡ drop (5 * meshCount o rs) v
@@ -52,9 +53,9 @@ pub record Written (o : Stroke) (rs : List (Run Endpoint)) (v : List Float) (t :
 
 -- "refused for want of room exactly when a list is too short for the numbers, and the refusal states both; otherwise exactly so many are written"
 pub record Rooms (o : Stroke) (rs : List (Run Endpoint)) (v : List Float) (t : List ℕ) (out : Outcome) : Type 0 where
-  pub few-vertices : length v < 5 * meshCount o rs → out ≡ refused v t (VertexRoom (meshCount o rs) (length (meshTriangles o 0 rs)))
+  pub few-vertices : length v < 5 * meshCount o rs → out ≡ refused v t (withCounts (numberOf vertexRoom) (meshCount o rs) (length (meshTriangles o 0 rs)))
   pub few-triangles : 5 * meshCount o rs ≤ length v → length t < 3 * length (meshTriangles o 0 rs)
-      → out ≡ refused v t (TriangleRoom (meshCount o rs) (length (meshTriangles o 0 rs)))
+      → out ≡ refused v t (withCounts (numberOf triangleRoom) (meshCount o rs) (length (meshTriangles o 0 rs)))
   pub enough : 5 * meshCount o rs ≤ length v → 3 * length (meshTriangles o 0 rs) ≤ length t → Written o rs v t out
 
 pub record Demand3 (verbs : List ℕ) (coords : List Float) (options : Options) (o : Stroke) (v : List Float) (t : List ℕ) : Type 0 where

@@ -5,11 +5,10 @@ use mathlib.Core.List.{List}
 use lib.Ieee.{Float}
 use lib.ListN.{length}
 use Rattle.endpoint.specs.declared.Endpoint.{Endpoint}
-use Rattle.path.specs.Options.{strokeOf}
+use Rattle.path.specs.Options.{accepting, strokeOf}
 use Rattle.path.specs.Runs.{Run}
 use Rattle.path.specs.declared.options.Options.{Options}
 use Rattle.path.specs.declared.options.Stroke.{Stroke}
-use Rattle.path.specs.declared.options.StrokeAnswer.the-variants as stroke
 use Rattle.run.specs.declared.draw.Drawn.{Drawn}
 use Rattle.drive.specs.Runs.{meshCount, meshTriangles}
 
@@ -17,7 +16,7 @@ use Rattle.drive.specs.Runs.{meshCount, meshTriangles}
 -- o is what the options of a call come to
 pub record Prepared (o : Stroke) : Type 0 where
   pub options : Options
-  pub is : strokeOf options ≡ stroke.Stroke o
+  pub is : strokeOf options ≡ accepting o
 
 -- the runs rs are counted, and the lists are as before
 pub record Counted (o : Stroke) (rs : List (Run Endpoint)) (v v' : List Float) (t t' : List ℕ) (r : Drawn) : Type 0 where

@@ -46,7 +46,7 @@ pub fn is_plenty(r: Rooms, coords: usize) -> bool
 
 // Refusals 6 and 7, by what a path needs. No path earns refusal 5.
 pub fn judged(d: Drawn, r: Rooms) -> Meshed
-    ensures { λ a. ⌜ a ≡ roomedOf (d .vertices) (d .triangles) (r .vertices) (r .triangles) ⌝ }
+    ensures { λ a. ⌜ meshAnswerOf a ≡ roomedOf (d .vertices) (d .triangles) (r .vertices) (r .triangles) ⌝ }
 {
     let n = d.vertices;
     let m = d.triangles;
@@ -61,18 +61,10 @@ pub fn judged(d: Drawn, r: Rooms) -> Meshed
 
 // Whether it is a mesh.
 pub fn fits(answer: Meshed) -> bool
-    ensures { λ r. ⌜ r ≡ isMesh answer ⌝ }
+    ensures { λ r. ⌜ r ≡ isMesh (meshAnswerOf answer) ⌝ }
 {
-    match answer {
-        Meshed::Mesh(_, _) => true,
-        Meshed::OutOfRange => false,
-        Meshed::TooManyVerbs => false,
-        Meshed::Verb(_) => false,
-        Meshed::Coordinate(_) => false,
-        Meshed::ShortEdge(_) => false,
-        Meshed::VertexRoom(_, _) => false,
-        Meshed::TriangleRoom(_, _) => false,
-    }
+    let a = mesh_answer_of(answer);
+    a.number == 0
 }
 
 // The number, the place and both counts that an answer stands for.

@@ -11,12 +11,13 @@ use path::Checked;
 use path::check_path;
 use path::options::Options;
 use path::options::Stroke;
-use path::options::StrokeAnswer;
+use path::options::Stroked;
 use path::options::stroke_of;
 use run::draw::Drawn;
 ghost use mathlib.Core.Path.{_≡_};
 ghost use Rattle.path.specs.Path.{Sound};
 ghost use Rattle.drive.specs.Runs.{runsOf};
+ghost use Rattle.mesh.specs.Answer.{meshAnswerOf};
 ghost use Rattle.mesh.specs.Mesh.{acceptedOf, strokedOf, outcomeOf};
 ghost use Rattle.mesh.specs.Parts.{Prepared, Counted};
 
@@ -51,7 +52,7 @@ fn mesh_accepted(
 ) -> Meshed
     requires { ⌜ Prepared o ⌝ }
     requires { ⌜ Sound (now verbs) (now coords) ⌝ }
-    ensures { λ r. ⌜ record { answer = r; vertices = now (vertices .exit); triangles = now (triangles .exit) } ≡ acceptedOf (now (vertices .entry)) (now (triangles .entry)) o (runsOf (now (verbs .entry)) (now (coords .entry))) ⌝ }
+    ensures { λ r. ⌜ record { answer = meshAnswerOf r; vertices = now (vertices .exit); triangles = now (triangles .exit) } ≡ acceptedOf (now (vertices .entry)) (now (triangles .entry)) o (runsOf (now (verbs .entry)) (now (coords .entry))) ⌝ }
 {
     let rooms = Rooms {
         vertices: vertices.len() / 5,
@@ -77,7 +78,7 @@ fn mesh_stroked(
     triangles: &mut [u16],
 ) -> Meshed
     requires { ⌜ Prepared o ⌝ }
-    ensures { λ r. ⌜ record { answer = r; vertices = now (vertices .exit); triangles = now (triangles .exit) } ≡ strokedOf (now (vertices .entry)) (now (triangles .entry)) (now (verbs .entry)) (now (coords .entry)) o ⌝ }
+    ensures { λ r. ⌜ record { answer = meshAnswerOf r; vertices = now (vertices .exit); triangles = now (triangles .exit) } ≡ strokedOf (now (vertices .entry)) (now (triangles .entry)) (now (verbs .entry)) (now (coords .entry)) o ⌝ }
 {
     match check_path(verbs, coords) {
         Checked::Accepted => mesh_accepted(verbs, coords, o, vertices, triangles),
@@ -96,10 +97,10 @@ pub fn tessellate(
     vertices: &mut [f32],
     triangles: &mut [u16],
 ) -> Meshed
-    ensures { λ r. ⌜ record { answer = r; vertices = now (vertices .exit); triangles = now (triangles .exit) } ≡ outcomeOf (now (verbs .entry)) (now (coords .entry)) options (now (vertices .entry)) (now (triangles .entry)) ⌝ }
+    ensures { λ r. ⌜ record { answer = meshAnswerOf r; vertices = now (vertices .exit); triangles = now (triangles .exit) } ≡ outcomeOf (now (verbs .entry)) (now (coords .entry)) options (now (vertices .entry)) (now (triangles .entry)) ⌝ }
 {
     match stroke_of(options) {
-        StrokeAnswer::Stroke(o) => mesh_stroked(verbs, coords, o, vertices, triangles),
-        StrokeAnswer::Refused => Meshed::OutOfRange,
+        Stroked::Stroke(o) => mesh_stroked(verbs, coords, o, vertices, triangles),
+        Stroked::Refused => Meshed::OutOfRange,
     }
 }

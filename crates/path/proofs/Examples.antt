@@ -7,14 +7,11 @@ use lib.Dec.{eqb}
 use lib.Ieee.{binary32, mul, neg, lt, eq, le, ofBits, toBits}
 use lib.ListN.{replicate}
 use Rattle.plane.specs.F32.{f32}
-use Rattle.path.specs.Options.{within, inRange, lineJoinOf, clipOf, preparedOf, strokeOf, strokeAnswerOf}
+use Rattle.path.specs.Options.{within, inRange, lineJoinOf, clipOf, preparedOf, strokeOf}
 use Rattle.path.specs.Verbs.{begin, line, endOpen, endClosed, names, named, placed, firstMisplaced, endsInside, pointCount}
 use Rattle.path.specs.Coordinates.{coordinateIn, firstOutside}
-use Rattle.path.specs.Path.{malformed, checkedOf, checkAnswerOf}
-use Rattle.path.specs.declared.CheckAnswer.{CheckAnswer}
+use Rattle.path.specs.Path.{malformed, checkedOf}
 use Rattle.path.specs.declared.options.Options.{Options}
-use Rattle.path.specs.declared.options.StrokeAnswer.{StrokeAnswer}
-use Rattle.path.specs.declared.options.StrokeAnswer.the-variants as answer
 
 pub data Case : Type 0 where
   -- the patterns of width and miter limit, join and cap; then the number, and the patterns of half width and clip
@@ -22,19 +19,14 @@ pub data Case : Type 0 where
   -- verbs and the patterns of the coordinates; then the number and the place
   path : List ℕ → List ℕ → ℕ → ℕ → Case
 
-answers : CheckAnswer → ℕ → ℕ → Bool
-answers a number place = eqb (a .number) number && eqb (a .place) place
-
-measures : StrokeAnswer → ℕ → ℕ → Bool
-measures (answer.Stroke s) h clip = eqb (toBits binary32 (s .«half_width»)) h && eqb (toBits binary32 (s .clip)) clip
-measures answer.Refused h clip = eqb h 0 && eqb clip 0
-
 abbrev options : ℕ → ℕ → ℕ → ℕ → Options
 options w m j c = record { width = f32 w; «miter_limit» = f32 m; «line_join» = j; cap = c }
 
 says : Case → Bool
-says (stroke w m j c number h clip) = let a = strokeOf (options w m j c) in answers (strokeAnswerOf a) number 0 && measures a h clip
-says (path vs cs number place) = answers (checkAnswerOf (checkedOf vs (map f32 cs))) number place
+says (stroke w m j c number h clip) =
+    let a = strokeOf (options w m j c) in
+    eqb (a .number) number && eqb (a .place) 0 && (eqb (toBits binary32 (a .stroke .«half_width»)) h && eqb (toBits binary32 (a .stroke .clip)) clip)
+says (path vs cs number place) = let a = checkedOf vs (map f32 cs) in eqb (a .number) number && eqb (a .place) place
 
 pub every : List Case → Bool
 every [] = true
@@ -73,5 +65,5 @@ cases =
     ∷ path (begin ∷ []) (0x7fc00000 ∷ 0 ∷ []) 3 1 ∷ []
 
 pub worked : every cases ≡ true
-unfolding every says cases answers measures strokeOf inRange within lineJoinOf clipOf preparedOf checkedOf malformed names named placed firstMisplaced endsInside pointCount coordinateIn firstOutside mul neg lt eq le ofBits toBits
+unfolding every says cases strokeOf inRange within lineJoinOf clipOf preparedOf checkedOf malformed names named placed firstMisplaced endsInside pointCount coordinateIn firstOutside mul neg lt eq le ofBits toBits
 worked = refl

@@ -1,22 +1,22 @@
 -- What an accepted path is, for the layers above; that its verbs make runs is proofs/Runs.antt. Assumes nothing.
 use Prim.Native.Nat.{ℕ, zero, suc, _*_, _≤_, _<_}
-use mathlib.Core.Path.{_≡_, refl, sym, ap, _∙_}
+use mathlib.Core.Path.{_≡_, refl}
 use mathlib.Core.Bool.{Bool, true, false, _||_, true≢false, false≢true}
 use mathlib.Core.List.{List, [], _∷_, List·Memᴰ, List·Memᴰ·not-nil, List·Memᴰ·cases-cons}
 use mathlib.Core.Logic.{⊎-elim}
 use native.Mathlib.Nat.{le-antisymm}
 use native.Mathlib.Omega.{arith}
-use lib.Dec.{T}
+use lib.Dec.{T, eqb}
 use lib.ListN.{length, getD}
 use lib.Ieee.{Float, nan, inf, fin, neg, lt, le, eq, ofBits}
 use lib.Ieee.Scale.{finite}
 use borrow.Author.Tests.{ltb-false, eqb-true, le-ltb, eq-eqb, not-false}
+use Rattle.refusals.specs.Numbers.{numberOf, accepted}
 use Rattle.plane.specs.Normal.{pick}
 use Rattle.path.specs.Verbs.{verbLimit, firstMisplaced, pointCount}
 use Rattle.path.specs.Coordinates.{coordinateIn, firstOutside}
-use Rattle.path.specs.Path.{malformed, checkedOf, Sound}
-use Rattle.path.specs.declared.Checked.{Checked}
-use Rattle.path.specs.declared.Checked.the-variants.{Accepted, TooManyVerbs, Verb, Coordinate}
+use Rattle.path.specs.Path.{malformed, rowOf, checkedOf, Sound}
+use Rattle.path.specs.declared.CheckAnswer.{CheckAnswer}
 use Rattle.path.proofs.Placing.{named-le, misplaced-le}
 
 -- no more points than verbs
@@ -25,15 +25,9 @@ unfolding pointCount
 count-le [] = omega arith
 count-le (v ∷ vs) = omega (arith, named-le v, count-le vs)
 
-abbrev isAccepted : Checked → Bool
-isAccepted Accepted = true
-isAccepted TooManyVerbs = false
-isAccepted (Verb i) = false
-isAccepted (Coordinate i) = false
-
 -- where all is accepted, no test that refuses was passed
-not-refused : (t : Bool) (x y : Checked) → isAccepted x ≡ false → pick t x y ≡ Accepted → (t ≡ false) × (y ≡ Accepted)
-not-refused true x y n e = absurd (false≢true (sym n ∙ ap isAccepted e))
+not-refused : (t : Bool) (x y : CheckAnswer) → eqb (x .number) (numberOf accepted) ≡ false → pick t x y .number ≡ numberOf accepted → (t ≡ false) × (y .number ≡ numberOf accepted)
+not-refused true x y n e = absurd (true≢false (rw e at n))
 not-refused false x y n e = (refl, e)
 
 neither : (a b : Bool) → (a || b) ≡ false → (a ≡ false) × (b ≡ false)
@@ -51,7 +45,7 @@ outside-le (x ∷ xs) = go (coordinateIn x) (outside-le xs)
 
 -- accepted, exactly when sound
 module _ (vs : List ℕ) (cs : List Float) where
-  pub sound : checkedOf vs cs ≡ Accepted → Sound vs cs
+  pub sound : checkedOf vs cs .number ≡ numberOf accepted → Sound vs cs
   unfolding checkedOf malformed
   sound e =
       let second = not-refused _ _ _ refl e in
@@ -67,9 +61,9 @@ module _ (vs : List ℕ) (cs : List Float) where
         within = le-antisymm (outside-le cs) (ltb-false (firstOutside cs) (length cs) (fourth .0));
       }
 
-  pub accepted : Sound vs cs → checkedOf vs cs ≡ Accepted
+  pub sound-accepted : Sound vs cs → checkedOf vs cs ≡ rowOf accepted 0
   unfolding checkedOf malformed
-  accepted s =
+  sound-accepted s =
       rw (
         le-ltb verbLimit (length vs) (s .few),
         le-ltb (firstMisplaced false vs) (length vs) (omega (arith, s .placed)),

@@ -1,6 +1,6 @@
 -- The options, their ranges, and what the rules use of them. Assumes nothing.
 use Prim.Native.Nat.{ℕ}
-use mathlib.Core.Bool.{Bool, _&&_}
+use mathlib.Core.Bool.{Bool, false, _&&_}
 use lib.Dec.{leb, eqb}
 use lib.Ieee.{Float, le}
 use Rattle.refusals.specs.Numbers.{numberOf, accepted, outOfRange}
@@ -8,11 +8,11 @@ use Rattle.plane.specs.F32.{_⊗_, f32}
 use Rattle.plane.specs.Normal.{pick}
 use Rattle.endpoint.specs.declared.LineJoin.{LineJoin}
 use Rattle.endpoint.specs.declared.LineJoin.the-variants.{Miter, MiterClip, Bevel}
-use Rattle.path.specs.declared.CheckAnswer.{CheckAnswer}
 use Rattle.path.specs.declared.options.Options.{Options}
 use Rattle.path.specs.declared.options.Stroke.{Stroke}
 use Rattle.path.specs.declared.options.StrokeAnswer.{StrokeAnswer}
-use Rattle.path.specs.declared.options.StrokeAnswer.the-variants as answer
+use Rattle.path.specs.declared.options.Stroked.{Stroked}
+use Rattle.path.specs.declared.options.Stroked.the-variants as stroked
 
 unfoldable pub within : Float → Float → Float → Bool
 within low x high = le low x && le x high
@@ -56,10 +56,21 @@ preparedOf o =
       clip = clipOf square h;
     }
 
-unfoldable pub strokeOf : Options → StrokeAnswer
-strokeOf o = pick (inRange o) (answer.Stroke (preparedOf o)) answer.Refused
+-- the values of a refusal: zeros, Miter and Butt
+abbrev pub noStroke : Stroke
+noStroke = record { «half_width» = f32 0; «miter_limit» = f32 0; «line_join» = Miter; square = false; clip = f32 0 }
 
--- "1: an option outside its range, NaN included", place 0
-abbrev pub strokeAnswerOf : StrokeAnswer → CheckAnswer
-strokeAnswerOf (answer.Stroke s) = record { number = numberOf accepted; place = 0 }
-strokeAnswerOf answer.Refused = record { number = numberOf outOfRange; place = 0 }
+-- "0: accepted", and "1: an option outside its range, NaN included", place 0
+abbrev pub accepting : Stroke → StrokeAnswer
+accepting s = record { number = numberOf accepted; place = 0; stroke = s }
+
+abbrev pub refusing : StrokeAnswer
+refusing = record { number = numberOf outOfRange; place = 0; stroke = noStroke }
+
+unfoldable pub strokeOf : Options → StrokeAnswer
+strokeOf o = pick (inRange o) (accepting (preparedOf o)) refusing
+
+-- what each case of `stroke_of`'s answer stands for
+abbrev pub strokeAnswerOf : Stroked → StrokeAnswer
+strokeAnswerOf (stroked.Stroke s) = accepting s
+strokeAnswerOf stroked.Refused = refusing

@@ -6,7 +6,7 @@ use mathlib.Core.List.{List}
 use lib.Dec.{ltb, eqb}
 use lib.ListN.{length}
 use lib.Ieee.{Float}
-use Rattle.refusals.specs.Numbers.{numberOf, accepted, tooManyVerbs, misplacedVerb, badCoordinate}
+use Rattle.refusals.specs.Numbers.{Meaning, numberOf, accepted, tooManyVerbs, misplacedVerb, badCoordinate}
 use Rattle.plane.specs.Normal.{pick}
 use Rattle.path.specs.Verbs.{verbLimit, firstMisplaced, endsInside, pointCount}
 use Rattle.path.specs.Coordinates.{firstOutside}
@@ -18,21 +18,25 @@ use Rattle.path.specs.declared.Checked.the-variants.{Accepted, TooManyVe
 unfoldable pub malformed : List ℕ → List Float → Bool
 malformed vs cs = ltb (firstMisplaced false vs) (length vs) || endsInside false vs || not (eqb (length cs) (2 * pointCount vs))
 
+-- the number of a row of document 01's table, and a place
+abbrev pub rowOf : Meaning → ℕ → CheckAnswer
+rowOf meaning place = record { number = numberOf meaning; place = place }
+
 -- "Order is by number within a call: all of 3 before any 4."
-unfoldable pub checkedOf : List ℕ → List Float → Checked
+unfoldable pub checkedOf : List ℕ → List Float → CheckAnswer
 checkedOf vs cs =
-    pick (ltb verbLimit (length vs)) TooManyVerbs
-    (pick (malformed vs cs) (Verb (firstMisplaced false vs))
-    (pick (ltb (firstOutside cs) (length cs)) (Coordinate (firstOutside cs)) Accepted))
+    pick (ltb verbLimit (length vs)) (rowOf tooManyVerbs 0)
+    (pick (malformed vs cs) (rowOf misplacedVerb (firstMisplaced false vs))
+    (pick (ltb (firstOutside cs) (length cs)) (rowOf badCoordinate (firstOutside cs)) (rowOf accepted 0)))
 
--- the number and the place of document 01's table
+-- what each case of `check_path`'s answer stands for
 abbrev pub checkAnswerOf : Checked → CheckAnswer
-checkAnswerOf Accepted = record { number = numberOf accepted; place = 0 }
-checkAnswerOf TooManyVerbs = record { number = numberOf tooManyVerbs; place = 0 }
-checkAnswerOf (Verb i) = record { number = numberOf misplacedVerb; place = i }
-checkAnswerOf (Coordinate i) = record { number = numberOf badCoordinate; place = i }
+checkAnswerOf Accepted = rowOf accepted 0
+checkAnswerOf TooManyVerbs = rowOf tooManyVerbs 0
+checkAnswerOf (Verb i) = rowOf misplacedVerb i
+checkAnswerOf (Coordinate i) = rowOf badCoordinate i
 
--- what an accepted path is, for the layers above: `checkedOf` is `Accepted` exactly then (proofs/Laws.antt)
+-- what an accepted path is, for the layers above: the number is 0 exactly then (proofs/Laws.antt)
 pub record Sound (vs : List ℕ) (cs : List Float) : Type 0 where
   pub few : length vs ≤ verbLimit
   pub placed : firstMisplaced false vs ≡ length vs

@@ -29,7 +29,7 @@ pub struct CheckAnswer {
 
 // All of 3 is judged before any 4.
 pub fn check_path(verbs: &[u8], coords: &[f32]) -> Checked
-    ensures { λ r. ⌜ r ≡ checkedOf (now (verbs .entry)) (now (coords .entry)) ⌝ }
+    ensures { λ r. ⌜ checkAnswerOf r ≡ checkedOf (now (verbs .entry)) (now (coords .entry)) ⌝ }
 {
     if verbs.len() > VERB_LIMIT {
         return Checked::TooManyVerbs;

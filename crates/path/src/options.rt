@@ -1,8 +1,7 @@
 // The options of a stroke: as a caller hands them over, and as the rules use them.
-use crate::CheckAnswer;
 use endpoint::LineJoin;
 ghost use mathlib.Core.Path.{_≡_};
-ghost use Rattle.path.specs.Options.{within, inRange, lineJoinOf, clipOf, preparedOf, strokeOf, strokeAnswerOf};
+ghost use Rattle.path.specs.Options.{within, inRange, lineJoinOf, clipOf, preparedOf, noStroke, strokeOf, strokeAnswerOf};
 
 // What a caller may choose. An option outside its range is refused with 1.
 pub struct Options {
@@ -31,9 +30,16 @@ pub struct Stroke {
 }
 
 // What `stroke_of` says: the options as the rules use them, or refusal 1.
-pub enum StrokeAnswer {
+pub enum Stroked {
     Stroke(Stroke),
     Refused,
+}
+
+// The same in the terms of document 01's table. A refusal has zeros, Miter and Butt.
+pub struct StrokeAnswer {
+    pub number: u32,
+    pub place: usize,
+    pub stroke: Stroke,
 }
 
 // No NaN is within anything.
@@ -88,27 +94,41 @@ fn prepared(o: Options) -> Stroke
     }
 }
 
-pub fn stroke_of(o: Options) -> StrokeAnswer
-    ensures { λ r. ⌜ r ≡ strokeOf o ⌝ }
+pub fn stroke_of(o: Options) -> Stroked
+    ensures { λ r. ⌜ strokeAnswerOf r ≡ strokeOf o ⌝ }
 {
     if is_in_range(o) {
-        return StrokeAnswer::Stroke(prepared(o));
+        return Stroked::Stroke(prepared(o));
     }
-    StrokeAnswer::Refused
+    Stroked::Refused
 }
 
-// The number and the place that an answer stands for.
-pub fn stroke_answer_of(s: StrokeAnswer) -> CheckAnswer
+fn no_stroke() -> Stroke
+    ensures { λ r. ⌜ r ≡ noStroke ⌝ }
+{
+    Stroke {
+        half_width: 0.0,
+        miter_limit: 0.0,
+        line_join: LineJoin::Miter,
+        square: false,
+        clip: 0.0,
+    }
+}
+
+// The number, the place and the values that an answer stands for.
+pub fn stroke_answer_of(s: Stroked) -> StrokeAnswer
     ensures { λ r. ⌜ r ≡ strokeAnswerOf s ⌝ }
 {
     match s {
-        StrokeAnswer::Stroke(_) => CheckAnswer {
+        Stroked::Stroke(stroke) => StrokeAnswer {
             number: 0,
             place: 0,
+            stroke: stroke,
         },
-        StrokeAnswer::Refused => CheckAnswer {
+        Stroked::Refused => StrokeAnswer {
             number: 1,
             place: 0,
+            stroke: no_stroke(),
         },
     }
 }

@@ -1,3 +1,4 @@
--- `Points` has document 01's cases, computed; `Unique` says that every public call has one outcome.
+-- `Points` has document 01's cases, computed; `Unique` says that every public call has one outcome, and `Cases` that its numbers tell its case.
 pub mod Points
+pub mod Cases
 pub mod Unique

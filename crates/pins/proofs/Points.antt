@@ -1,12 +1,12 @@
 -- Document 01's points, P1 to P10, and a few beside them, computed by the checker over the definitions: one statement over one list. Assumes nothing.
 use Prim.Native.Nat.{ℕ, _*_}
 use mathlib.Core.Path.{_≡_, refl}
-use mathlib.Core.Bool.{Bool, true, _&&_}
+use mathlib.Core.Bool.{Bool, true, false, _&&_}
 use mathlib.Core.List.{List, [], _∷_, _++_, map}
 use lib.Count.{leadingZeros}
 use lib.Dec.{eqb}
 use lib.Ieee.{binary32, add, sub, mul, div, neg, lt, eq, le, ofBits, toBits}
-use lib.ListN.{replicate}
+use lib.ListN.{length, replicate}
 use Rattle.plane.specs.F32.{f32}
 use Rattle.plane.specs.Normal.{normalOf, inDomain, computeNormalOf}
 use Rattle.endpoint.specs.Endpoint.{blankOf}
@@ -38,7 +38,7 @@ use Rattle.strip.specs.Section.{sections}
 use Rattle.strip.specs.Triangle.{flatT, different, triOf, between, stripOf, through}
 use Rattle.run.specs.Run.{drawsCap, shapeOf, shapeCount, shapeVertices, shapeTriangles}
 use Rattle.drive.specs.Runs.{meshVertices, meshCount, meshTriangles, meshEdges}
-use Rattle.mesh.specs.Answer.{judgedOf, meshAnswerOf}
+use Rattle.mesh.specs.Answer.{judgedOf}
 use Rattle.mesh.specs.Mesh.{Outcome, acceptedOf, strokedOf, outcomeOf}
 use Rattle.lists.specs.Over.{over}
 use Rattle.path.specs.declared.options.Options.{Options}
@@ -85,6 +85,8 @@ after xs (replaceLast k ∷ cs) = after (lastReplaced xs (numbered k)) cs
 pub data Case : Type 0 where
   -- verbs and the patterns of the coordinates; how many vertices and triangles there is room for; then the number, the place and both counts
   mesh : Pen → List ℕ → List ℕ → ℕ → ℕ → ℕ → ℕ → ℕ → ℕ → Case
+  -- the patterns of an open run's coordinates, and how many of its points are kept
+  keeps : List ℕ → ℕ → Case
   -- calls on a new window, and the endpoints that it then reads at 0, 1 and 2
   window : List Call → ℕ → ℕ → ℕ → Case
   -- a pattern, and the number and the pattern of its root
@@ -97,8 +99,9 @@ reads xs i k = eqb (gotOf xs i .endpoint .id .0) k
 
 says : Case → Bool
 says (mesh p vs cs nv nt number place n m) =
-    let a = meshAnswerOf (outcomeOf vs (map f32 cs) (optionsOf p) (replicate (5 * nv) (f32 0)) (replicate (3 * nt) 0) .answer) in
+    let a = outcomeOf vs (map f32 cs) (optionsOf p) (replicate (5 * nv) (f32 0)) (replicate (3 * nt) 0) .answer in
     eqb (a .number) number && eqb (a .place) place && (eqb (a .vertices) n && eqb (a .triangles) m)
+says (keeps cs n) = eqb (length (keptPoints false (endpointsOf 0 (map f32 cs)))) n
 says (window cs a b c) = let xs = after [] cs in reads xs 0 a && (reads xs 1 b && reads xs 2 c)
 says (root x number r) = let a = rootAnswer (f32 x) in eqb (a .number) number && eqb (toBits binary32 (a .value)) r
 says (normal x1 y1 x2 y2 number x y) =
@@ -131,7 +134,8 @@ cases =
     ∷ mesh (pen 0 0) (begin ∷ line ∷ endOpen ∷ []) (0 ∷ 0x3f800000 ∷ 0x40000000 ∷ 0x3f800000 ∷ []) 4 2 0 0 4 2
     ∷ mesh (pen 0 0) (begin ∷ line ∷ endOpen ∷ []) (0 ∷ 0x3f800000 ∷ 0x40000000 ∷ 0x3f800000 ∷ []) 3 2 6 0 4 2
     ∷ mesh (pen 0 0) (begin ∷ line ∷ endOpen ∷ []) (0 ∷ 0x3f800000 ∷ 0x40000000 ∷ 0x3f800000 ∷ []) 4 1 7 0 4 2
-    -- P10: (0,0), (1/128,0): two points kept; (0,0), (1/256,0): one
+    -- P10: (0,0), (1/128,0): two points kept; (0,0), (1/256,0): one; and what is drawn then
+    ∷ keeps (0 ∷ 0 ∷ 0x3c000000 ∷ 0 ∷ []) 2 ∷ keeps (0 ∷ 0 ∷ 0x3b800000 ∷ 0 ∷ []) 1
     ∷ mesh (pen 0 0) (begin ∷ line ∷ endOpen ∷ []) (0 ∷ 0 ∷ 0x3c000000 ∷ 0 ∷ []) 4 2 0 0 4 2
     ∷ mesh (pen 0 0) (begin ∷ line ∷ endOpen ∷ []) (0 ∷ 0 ∷ 0x3b800000 ∷ 0 ∷ []) 0 0 0 0 0 0
     -- an option, the verbs and a coordinate all wrong: 1; too many verbs: 2; the coordinate: 4

@@ -1,9 +1,8 @@
--- Any two outcomes that a public call's contract allows are the same: number, place, counts, values and every lent list whole. Each statement takes
--- what the contract ensures of two outcomes. Assumes nothing.
+-- Any two outcomes that a public call's contract allows are the same: number, place, counts and values, the case of the enum that stands for them, and every
+-- lent list whole. Each statement takes what the contract ensures of two outcomes. Assumes nothing.
 use Prim.Native.Nat.{ℕ}
-use mathlib.Core.Path.{_≡_, refl, sym, ap, _∙_}
+use mathlib.Core.Path.{_≡_, sym, ap, _∙_}
 use mathlib.Core.List.{List, [], _∷_, _++_}
-use native.Mathlib.Omega.{arith}
 use lib.Ieee.{Float}
 use lib.ListN.{length}
 use Rattle.root.specs.Answer.{Answers, answerOf}
@@ -11,48 +10,71 @@ use Rattle.root.specs.declared.Rooted.{Rooted}
 use Rattle.root.proofs.Laws.{one-answer, one-case}
 use Rattle.plane.specs.Normal.{normalAnswerOf, computeNormalOf}
 use Rattle.plane.specs.declared.normal.JoinDirection.{JoinDirection}
-use Rattle.plane.specs.declared.normal.JoinDirection.the-variants.{Normal, Refused}
-use Rattle.plane.specs.declared.normal.NormalAnswer.{NormalAnswer}
 use Rattle.plane.specs.declared.vector.Point.{Point}
 use Rattle.endpoint.specs.declared.EndpointData.{EndpointData}
-use Rattle.window.specs.Answer.{getAnswerOf, gotOf}
+use Rattle.window.specs.Answer.{getAnswerOf, gotOf, changeAnswerOf}
 use Rattle.window.specs.Window.{items, lastThree, ReplacesLast}
 use Rattle.window.specs.declared.answer.Got.{Got}
 use Rattle.window.specs.declared.buffer.PointBuffer.{PointBuffer}
 use Rattle.window.specs.declared.buffer.Replaced.{Replaced}
 use Rattle.window.proofs.Laws.{one-got, one-replaced}
+use Rattle.path.specs.Options.{strokeOf, strokeAnswerOf}
+use Rattle.path.specs.Path.{checkedOf, checkAnswerOf}
+use Rattle.path.specs.declared.Checked.{Checked}
 use Rattle.path.specs.declared.options.Options.{Options}
+use Rattle.path.specs.declared.options.Stroked.{Stroked}
+use Rattle.mesh.specs.Answer.{meshAnswerOf}
 use Rattle.mesh.specs.Mesh.{Outcome, outcomeOf}
+use Rattle.mesh.specs.declared.answer.Meshed.{Meshed}
+use Rattle.reader.specs.Answer.{readAnswerOf}
 use Rattle.reader.specs.Outcome as reader
 use Rattle.reader.specs.Reads.{Reads}
+use Rattle.reader.specs.declared.answer.Reading.{Reading}
 use Rattle.reader.proofs.Meets.{same-outcome}
+use Rattle.pins.proofs.Cases.{one-direction, one-stroked, one-checked, one-meshed, one-reading}
+
+-- two answers have the same numbers and values, and are the same case
+abbrev pub Same : {A B : Type 0} → (A → B) → A → A → Type 0
+Same numbers r s = (numbers r ≡ numbers s) × (r ≡ s)
 
 -- ---- mesh::tessellate: the answer and both lists
-pub mesh-one : (verbs : List ℕ) (coords : List Float) (options : Options) (v : List Float) (t : List ℕ) (a b : Outcome)
-    → a ≡ outcomeOf verbs coords options v t → b ≡ outcomeOf verbs coords options v t → a ≡ b
-mesh-one verbs coords options v t a b h k = h ∙ sym k
+pub mesh-one : (verbs : List ℕ) (coords : List Float) (options : Options) (v : List Float) (t : List ℕ) (r s : Meshed) (v1 v2 : List Float) (t1 t2 : List ℕ)
+    → record { answer = meshAnswerOf r; vertices = v1; triangles = t1 } ≡ outcomeOf verbs coords options v t
+    → record { answer = meshAnswerOf s; vertices = v2; triangles = t2 } ≡ outcomeOf verbs coords options v t
+    → Same meshAnswerOf r s × (v1 ≡ v2) × (t1 ≡ t2)
+mesh-one verbs coords options v t r s v1 v2 t1 t2 h k =
+    let e = h ∙ sym k in
+    let n = ap (λ (o : Outcome). o .answer) e in
+    ((n, one-meshed r s n), ap (λ (o : Outcome). o .vertices) e, ap (λ (o : Outcome). o .triangles) e)
 
 -- ---- reader::read: the answer and both lists
-pub read-one : (text verbs : List ℕ) (coords : List Float) (a b : reader.Outcome) → Reads text verbs coords a → Reads text verbs coords b → a ≡ b
-read-one text verbs coords a b h k = same-outcome text verbs coords a b h k
+pub read-one : (text verbs : List ℕ) (coords : List Float) (r s : Reading) (v1 v2 : List ℕ) (c1 c2 : List Float)
+    → Reads text verbs coords (record { answer = readAnswerOf r; verbs = v1; coords = c1 })
+    → Reads text verbs coords (record { answer = readAnswerOf s; verbs = v2; coords = c2 })
+    → Same readAnswerOf r s × (v1 ≡ v2) × (c1 ≡ c2)
+read-one text verbs coords r s v1 v2 c1 c2 h k =
+    let e = same-outcome text verbs coords _ _ h k in
+    let n = ap (λ (o : reader.Outcome). o .answer) e in
+    ((n, one-reading r s n), ap (λ (o : reader.Outcome). o .verbs) e, ap (λ (o : reader.Outcome). o .coords) e)
 
 -- ---- root::root
-pub root-one : (x : Float) (r s : Rooted) → Answers x (answerOf r) → Answers x (answerOf s) → r ≡ s
-root-one x r s h k = one-case r s (one-answer x (answerOf r) (answerOf s) h k)
+pub root-one : (x : Float) (r s : Rooted) → Answers x (answerOf r) → Answers x (answerOf s) → Same answerOf r s
+root-one x r s h k = let n = one-answer x (answerOf r) (answerOf s) h k in (n, one-case r s n)
 
 -- ---- plane::normal::compute_normal
-one-direction : (r s : JoinDirection) → normalAnswerOf r ≡ normalAnswerOf s → r ≡ s
-one-direction (Normal x y) (Normal z w) e = ap (λ (a : NormalAnswer). Normal (a .x) (a .y)) e
-one-direction (Normal x y) Refused e = absurd (let n = ap (λ (a : NormalAnswer). a .number) e in omega arith)
-one-direction Refused (Normal z w) e = absurd (let n = ap (λ (a : NormalAnswer). a .number) e in omega arith)
-one-direction Refused Refused e = refl
+pub normal-one : (v1 v2 : Point) (r s : JoinDirection) → normalAnswerOf r ≡ computeNormalOf v1 v2 → normalAnswerOf s ≡ computeNormalOf v1 v2 → Same normalAnswerOf r s
+normal-one v1 v2 r s h k = let n = h ∙ sym k in (n, one-direction r s n)
 
-pub normal-one : (v1 v2 : Point) (r s : JoinDirection) → normalAnswerOf r ≡ computeNormalOf v1 v2 → normalAnswerOf s ≡ computeNormalOf v1 v2 → r ≡ s
-normal-one v1 v2 r s h k = one-direction r s (h ∙ sym k)
+-- ---- path::options::stroke_of and path::check_path, parts of the mesh call
+pub stroke-one : (o : Options) (r s : Stroked) → strokeAnswerOf r ≡ strokeOf o → strokeAnswerOf s ≡ strokeOf o → Same strokeAnswerOf r s
+stroke-one o r s h k = let n = h ∙ sym k in (n, one-stroked r s n)
+
+pub check-one : (verbs : List ℕ) (coords : List Float) (r s : Checked) → checkAnswerOf r ≡ checkedOf verbs coords → checkAnswerOf s ≡ checkedOf verbs coords → Same checkAnswerOf r s
+check-one verbs coords r s h k = let n = h ∙ sym k in (n, one-checked r s n)
 
 -- ---- window: by value and lent alike. Two windows that hold the same endpoints answer every later call alike; which slots hold them is left open.
-pub get-one : (w : PointBuffer) (i : ℕ) (g h : Got) → getAnswerOf g ≡ gotOf (items w) i → getAnswerOf h ≡ gotOf (items w) i → g ≡ h
-get-one w i g h p q = one-got g h (p ∙ sym q)
+pub get-one : (w : PointBuffer) (i : ℕ) (g h : Got) → getAnswerOf g ≡ gotOf (items w) i → getAnswerOf h ≡ gotOf (items w) i → Same getAnswerOf g h
+get-one w i g h p q = let n = p ∙ sym q in (n, one-got g h n)
 
 pub count-one : (w : PointBuffer) (n m : ℕ) → n ≡ length (items w) → m ≡ length (items w) → n ≡ m
 count-one w n m p q = p ∙ sym q
@@ -63,8 +85,8 @@ push-one w e r s p q = p ∙ sym q
 pub clear-one : (r s : PointBuffer) → items r ≡ [] → items s ≡ [] → items r ≡ items s
 clear-one r s p q = p ∙ sym q
 
-pub replace-one : (w : PointBuffer) (e : EndpointData) (r s : Replaced) → ReplacesLast w e r → ReplacesLast w e s → (r .change ≡ s .change) × (items (r .window) ≡ items (s .window))
-replace-one = one-replaced
+pub replace-one : (w : PointBuffer) (e : EndpointData) (r s : Replaced) → ReplacesLast w e r → ReplacesLast w e s → Same changeAnswerOf (r .change) (s .change) × (items (r .window) ≡ items (s .window))
+replace-one w e r s p q = let o = one-replaced w e r s p q in ((p .answer ∙ sym (q .answer), o .0), o .1)
 
 -- what a later call answers depends on what is held alone
 pub same-reads : (r s : PointBuffer) → items r ≡ items s → (i : ℕ) → gotOf (items r) i ≡ gotOf (items s) i

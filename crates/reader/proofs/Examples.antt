@@ -12,7 +12,6 @@ use Rattle.form.specs.Bytes.{classOf}
 use Rattle.form.specs.Machine.{stop}
 use Rattle.lists.specs.Over.{over}
 use Rattle.values.specs.Numbers.{valueOf}
-use Rattle.reader.specs.Answer.{readAnswerOf}
 use Rattle.reader.specs.Outcome.{Outcome}
 use Rattle.reader.specs.Read.{scannedOf, formedOf, outcomeOf}
 
@@ -39,7 +38,7 @@ lent text n m = outcomeOf (bytes text) (replicate n 9) (replicate m (ofBits bina
 -- the answer, and both lists whole
 leaves : Outcome → ℕ → ℕ → ℕ → ℕ → List ℕ → List ℕ → Bool
 leaves o number place n m vs cs =
-    let a = readAnswerOf (o .answer) in
+    let a = o .answer in
     eqb (a .number) number && eqb (a .place) place && eqb (a .verbs) n && eqb (a .coords) m && same (o .verbs) vs && same (map (toBits binary32) (o .coords)) cs
 
 says : Case → Bool

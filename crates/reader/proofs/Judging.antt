@@ -11,31 +11,30 @@ use lib.ListN.{length}
 use Rattle.form.specs.declared.machine.Mode.the-variants.{Start}
 use Rattle.form.specs.Machine.{final, mayEnd, stop}
 use Rattle.form.proofs.Parse.{never}
+use Rattle.refusals.specs.Numbers.{numberOf, readerRoom}
 use Rattle.lists.specs.Over.{over}
 use Rattle.path.specs.Verbs.{verbLimit}
 use Rattle.values.specs.State.{eventsIn}
-use Rattle.reader.specs.declared.answer.Reading.{Reading}
-use Rattle.reader.specs.declared.answer.Reading.the-variants.{Path, NoRoom}
+use Rattle.reader.specs.declared.answer.ReadAnswer.{ReadAnswer}
 use Rattle.reader.specs.declared.counts.Counts.{Counts}
 use Rattle.reader.specs.declared.counts.Found.{Found}
 use Rattle.reader.specs.declared.counts.Found.the-variants.{Nowhere, At}
-use Rattle.reader.specs.declared.scan.Scanned.the-variants.{OutOfForm, Formed}
-use Rattle.reader.specs.Answer.{textLimit, isPath, largeOr, judgedOf}
+use Rattle.reader.specs.Answer.{textLimit, withCounts, withPlace, isPath, largeOr, judgedOf}
 use Rattle.reader.specs.Counts.{verbsOf, coordsOf, countsOf}
 use Rattle.reader.specs.Outcome.{refused, written}
-use Rattle.reader.specs.Read.{HasRoom, scannedOf, formedOf}
+use Rattle.reader.specs.Read.{HasRoom, ScanAnswer, inForm, outOfForm, scannedOf, formedOf}
 
-formed-is : (t : Bool) (k n : Counts) (i : ℕ) → cond t (Formed k) (OutOfForm i) ≡ Formed n → k ≡ n
-formed-is true k n i e = cc
-formed-is false k n i e = absurd (let z : _≡_ {A = ℕ} 0 1 = cc in omega arith)
+formed-is : (t : Bool) (k n : Counts) (i : ℕ) → cond t (inForm k) (outOfForm i) ≡ inForm n → k ≡ n
+formed-is true k n i e = ap (λ (a : ScanAnswer). a .counts) e
+formed-is false k n i e = absurd (let z = ap (λ (a : ScanAnswer). a .number) e in omega arith)
 
 -- the first pass counts the text
-counted : (text : List ℕ) (n : Counts) → scannedOf text ≡ Formed n → countsOf (eventsIn text) ≡ n
+counted : (text : List ℕ) (n : Counts) → scannedOf text ≡ inForm n → countsOf (eventsIn text) ≡ n
 unfolding scannedOf
 counted text n e = formed-is (mayEnd (final Start text)) (countsOf (eventsIn text)) n (stop Start text) e
 
 -- a path has room in both lists
-both : (f : Found) (a b c : Bool) (x y : ℕ) → isPath (largeOr f (cond (a || b || c) NoRoom (Path x y))) ≡ true → (a ≡ false) × (b ≡ false)
+both : (f : Found) (a b c : Bool) (x y : ℕ) → isPath (largeOr f (cond (a || b || c) (withPlace (numberOf readerRoom) 0) (withCounts x y))) ≡ true → (a ≡ false) × (b ≡ false)
 both (At i) a b c x y e = absurd (never e)
 both Nowhere true b c x y e = absurd (never e)
 both Nowhere false true c x y e = absurd (never e)
@@ -48,10 +47,10 @@ path-fits n verbRoom coordRoom e =
     (ltb-false verbRoom (n .verbs) (t .0), ltb-false coordRoom (n .coords) (t .1))
 
 module _ (text v : List ℕ) (c : List Float) (n : Counts) where
-  abbrev answer : Reading
+  abbrev answer : ReadAnswer
   answer = judgedOf n (length v) (length c)
 
-  pub has-room : length text ≤ textLimit → scannedOf text ≡ Formed n → isPath answer ≡ true → HasRoom text v c
+  pub has-room : length text ≤ textLimit → scannedOf text ≡ inForm n → isPath answer ≡ true → HasRoom text v c
   has-room h e p =
       let q = counted text n e in
       let fits = path-fits n (length v) (length c) p in

@@ -9,6 +9,7 @@ use native.Mathlib.Decide.{decLe}
 use borrow.Author.Tests.{lt-ltb, le-ltb}
 use lib.Ieee.{Float}
 use lib.ListN.{length}
+use Rattle.refusals.specs.Numbers.{numberOf, longText, malformedText, largeNumber, readerRoom}
 use Rattle.form.specs.declared.machine.Mode.the-variants.{Start}
 use Rattle.form.specs.Form.{Text, text, HasForm}
 use Rattle.form.specs.Machine.{final, mayEnd, stop}
@@ -20,44 +21,40 @@ use Rattle.values.specs.Known.{nothingKnown}
 use Rattle.values.specs.Meaning.{eventsOf}
 use Rattle.values.specs.State.{eventsIn}
 use Rattle.values.proofs.Means.{means}
-use Rattle.reader.specs.declared.answer.Reading.the-variants as reading
-use Rattle.reader.specs.declared.answer.Reading.the-variants.{Path, TooLong, TooLarge, NoRoom}
 use Rattle.reader.specs.declared.counts.Found.{Found}
 use Rattle.reader.specs.declared.counts.Found.the-variants.{Nowhere, At}
-use Rattle.reader.specs.declared.scan.Scanned.{Scanned}
-use Rattle.reader.specs.declared.scan.Scanned.the-variants.{OutOfForm, Formed}
-use Rattle.reader.specs.Answer.{textLimit, isPath, largeOr, judgedOf}
+use Rattle.reader.specs.Answer.{textLimit, withCounts, withPlace, isPath, largeOr, judgedOf}
 use Rattle.reader.specs.Counts.{verbsOf, coordsOf, countsOf}
 use Rattle.reader.specs.Outcome.{Outcome, refused, written}
-use Rattle.reader.specs.Read.{scannedOf, formedOf, byScan, outcomeOf}
+use Rattle.reader.specs.Read.{ScanAnswer, inForm, outOfForm, scannedOf, formedOf, byScan, outcomeOf}
 use Rattle.reader.specs.Reads.{verbsIn, coordsIn, largeIn, crowded, TextIs, Reads, too-long, out-of-form, too-large, no-room, path}
 
 -- the bytes of a text call for what it means
 bytes-mean : (s : List ℕ) (t : Text) → text t ≡ s → eventsIn s ≡ eventsOf (length (text t)) t
 bytes-mean s t e = ap (λ l. eventsIn l) (sym e) ∙ means (length (text t)) t nothingKnown
 
-scanned-formed : (s : List ℕ) → mayEnd (final Start s) ≡ true → scannedOf s ≡ Formed (countsOf (eventsIn s))
+scanned-formed : (s : List ℕ) → mayEnd (final Start s) ≡ true → scannedOf s ≡ inForm (countsOf (eventsIn s))
 unfolding scannedOf
-scanned-formed s e = ap (λ x. cond x (Formed (countsOf (eventsIn s))) (OutOfForm (stop Start s))) e
+scanned-formed s e = ap (λ x. cond x (inForm (countsOf (eventsIn s))) (outOfForm (stop Start s))) e
 
-scanned-wrong : (s : List ℕ) → mayEnd (final Start s) ≡ false → scannedOf s ≡ OutOfForm (stop Start s)
+scanned-wrong : (s : List ℕ) → mayEnd (final Start s) ≡ false → scannedOf s ≡ outOfForm (stop Start s)
 unfolding scannedOf
-scanned-wrong s e = ap (λ x. cond x (Formed (countsOf (eventsIn s))) (OutOfForm (stop Start s))) e
+scanned-wrong s e = ap (λ x. cond x (inForm (countsOf (eventsIn s))) (outOfForm (stop Start s))) e
 
 module _ (s v : List ℕ) (c : List Float) where
   abbrev outcome : Outcome
   outcome = outcomeOf s v c
 
-  pub long-so : textLimit < length s → outcome ≡ refused v c TooLong
+  pub long-so : textLimit < length s → outcome ≡ refused v c (withPlace (numberOf longText) 0)
   unfolding outcomeOf
-  long-so h = ap (λ t. cond t (refused v c TooLong) (byScan v c s (scannedOf s))) (lt-ltb textLimit (length s) h)
+  long-so h = ap (λ t. cond t (refused v c (withPlace (numberOf longText) 0)) (byScan v c s (scannedOf s))) (lt-ltb textLimit (length s) h)
 
-  pub scan-so : length s ≤ textLimit → (x : Scanned) → scannedOf s ≡ x → outcome ≡ byScan v c s x
+  pub scan-so : length s ≤ textLimit → (x : ScanAnswer) → scannedOf s ≡ x → outcome ≡ byScan v c s x
   unfolding outcomeOf
-  scan-so h x e = ap (λ t. cond t (refused v c TooLong) (byScan v c s (scannedOf s))) (le-ltb textLimit (length s) h) ∙ ap (λ y. byScan v c s y) e
+  scan-so h x e = ap (λ t. cond t (refused v c (withPlace (numberOf longText) 0)) (byScan v c s (scannedOf s))) (le-ltb textLimit (length s) h) ∙ ap (λ y. byScan v c s y) e
 
-  wrong-so : length s ≤ textLimit → mayEnd (final Start s) ≡ false → outcome ≡ refused v c (reading.OutOfForm (stop Start s))
-  wrong-so h e = scan-so h (OutOfForm (stop Start s)) (scanned-wrong s e)
+  wrong-so : length s ≤ textLimit → mayEnd (final Start s) ≡ false → outcome ≡ refused v c (withPlace (numberOf malformedText) (stop Start s))
+  wrong-so h e = scan-so h (outOfForm (stop Start s)) (scanned-wrong s e)
 
   -- by the text that the bytes are
   module _ (t : Text) (is : TextIs s t) where
@@ -68,24 +65,24 @@ module _ (s v : List ℕ) (c : List Float) where
 
     by-large : Found → Bool → Outcome
     by-large f b =
-        let r = largeOr f (cond b NoRoom (Path (length (verbsIn t)) (length (coordsIn t)))) in
+        let r = largeOr f (cond b (withPlace (numberOf readerRoom) 0) (withCounts (length (verbsIn t)) (length (coordsIn t)))) in
         cond (isPath r) (written v c r (verbsIn t) (coordsIn t)) (refused v c r)
 
     formed-so : outcome ≡ by-large (largeIn t) (crowded v c t)
     unfolding formedOf by-events by-large
     formed-so =
-        scan-so (is .short) (Formed (countsOf (eventsIn s))) (scanned-formed s (form-taken s (t, is .spelt)))
+        scan-so (is .short) (inForm (countsOf (eventsIn s))) (scanned-formed s (form-taken s (t, is .spelt)))
         ∙ ap (λ es. by-events es) (bytes-mean s t (is .spelt))
 
-    large-so : (p : ℕ) → largeIn t ≡ At p → outcome ≡ refused v c (TooLarge p)
+    large-so : (p : ℕ) → largeIn t ≡ At p → outcome ≡ refused v c (withPlace (numberOf largeNumber) p)
     unfolding by-large
     large-so p f = formed-so ∙ ap (λ x. by-large x (crowded v c t)) f
 
-    room-so : largeIn t ≡ Nowhere → crowded v c t ≡ true → outcome ≡ refused v c NoRoom
+    room-so : largeIn t ≡ Nowhere → crowded v c t ≡ true → outcome ≡ refused v c (withPlace (numberOf readerRoom) 0)
     unfolding by-large
     room-so f q = formed-so ∙ ap (λ x. by-large x (crowded v c t)) f ∙ ap (λ b. by-large Nowhere b) q
 
-    path-so : largeIn t ≡ Nowhere → crowded v c t ≡ false → outcome ≡ written v c (Path (length (verbsIn t)) (length (coordsIn t))) (verbsIn t) (coordsIn t)
+    path-so : largeIn t ≡ Nowhere → crowded v c t ≡ false → outcome ≡ written v c (withCounts (length (verbsIn t)) (length (coordsIn t))) (verbsIn t) (coordsIn t)
     unfolding by-large
     path-so f q = formed-so ∙ ap (λ x. by-large x (crowded v c t)) f ∙ ap (λ b. by-large Nowhere b) q
 
@@ -120,7 +117,7 @@ module _ (s v : List ℕ) (c : List Float) where
   only o (too-long h) = sym (long-so h)
   only o (out-of-form {p} h w) =
       let e = not-ended (w .unformed) (mayEnd (final Start s)) refl in
-      ap (λ i. refused v c (reading.OutOfForm i)) (wrong-unique s p (stop Start s) w (wrong-at s e)) ∙ sym (wrong-so h e)
+      ap (λ i. refused v c (withPlace (numberOf malformedText) i)) (wrong-unique s p (stop Start s) w (wrong-at s e)) ∙ sym (wrong-so h e)
   only o (too-large {p} t is f) = sym (large-so t is p f)
   only o (no-room t is f q) = sym (room-so t is f q)
   only o (path t is f q) = sym (path-so t is f q)
@@ -130,7 +127,7 @@ module _ (s v : List ℕ) (c : List Float) where
   same-outcome o p a b = only o a ∙ sym (only p b)
 
   abbrev drawn : Text → Outcome
-  drawn t = written v c (Path (length (verbsIn t)) (length (coordsIn t))) (verbsIn t) (coordsIn t)
+  drawn t = written v c (withCounts (length (verbsIn t)) (length (coordsIn t))) (verbsIn t) (coordsIn t)
 
   -- what is accepted has the form, and is its verbs and coordinates
   pub accepted : (o : Outcome) → Reads s v c o → isPath (o .answer) ≡ true → (t : Text) × TextIs s t × (o ≡ drawn t)

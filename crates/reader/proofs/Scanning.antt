@@ -19,9 +19,8 @@ use Rattle.values.specs.State.{started, calledOf, endedOf, stepOf, inTurn, even
 use Rattle.reader.specs.declared.counts.Counts.{Counts}
 use Rattle.reader.specs.declared.counts.Found.{Found}
 use Rattle.reader.specs.declared.counts.Found.the-variants.{Nowhere, At}
-use Rattle.reader.specs.declared.scan.Scanned.the-variants.{OutOfForm, Formed}
 use Rattle.reader.specs.Counts.{largeOf, orElse, verbsOf, coordsOf, firstLarge, countsOf, verbsCalled, coordsCalled, noCounts, addedOf}
-use Rattle.reader.specs.Read.{scannedOf}
+use Rattle.reader.specs.Read.{inForm, outOfForm, scannedOf}
 use Rattle.reader.proofs.Adding.{called-few, Plain, calls-plain, end-calls-plain, verbs-turn, coords-turn, large-turn}
 
 -- n counts what came before es
@@ -115,13 +114,13 @@ module _ (text : List ℕ) (s : State) (i : ℕ) (h : i < length text) where
           coords = omega (arith, g .coords, f);
         }
 
-    pub scanning-lost : isLost m ≡ true → OutOfForm i ≡ scannedOf text
+    pub scanning-lost : isLost m ≡ true → outOfForm i ≡ scannedOf text
     unfolding scannedOf
     scanning-lost e =
         let t : stop (s .mode) (drop i text) ≡ 0 = stops-on ∙ ap (λ l. cond l 0 (suc (stop m (drop (i + 1) text)))) e in
         let p : i ≡ stop Start text = omega (arith, g .stops, t) in
         let q : final Start text ≡ Lost = sym leads-on ∙ ap (λ x. final x (drop (i + 1) text)) (is-lost m e) ∙ lost-final (drop (i + 1) text) in
-        ap OutOfForm p ∙ sym (ap (λ x. cond (mayEnd x) (Formed (countsOf (eventsIn text))) (OutOfForm (stop Start text))) q)
+        ap outOfForm p ∙ sym (ap (λ x. cond (mayEnd x) (inForm (countsOf (eventsIn text))) (outOfForm (stop Start text))) q)
 
 -- after the last byte
 module _ (text : List ℕ) (s : State) (n : Counts) (i : ℕ) (h : length text ≤ i) (g : Scanning text s n i) where
@@ -131,16 +130,16 @@ module _ (text : List ℕ) (s : State) (n : Counts) (i : ℕ) (h : length text �
   leads-to : s .mode ≡ final Start text
   leads-to = ap (λ r. final (s .mode) r) (sym none) ∙ g .leads
 
-  pub scanning-formed : mayEnd (s .mode) ≡ true → Formed (addedOf n (endedOf s)) ≡ scannedOf text
+  pub scanning-formed : mayEnd (s .mode) ≡ true → inForm (addedOf n (endedOf s)) ≡ scannedOf text
   unfolding scannedOf
   scanning-formed e =
       let l = left-added (eventsIn text) n (endedOf s) [] (end-calls-plain s) (subst (λ bs. Left (eventsIn text) n (eventsFrom (length text) s bs)) none (g .left)) in
-      ap Formed (left-none (eventsIn text) (addedOf n (endedOf s)) l)
-      ∙ sym (ap (λ t. cond t (Formed (countsOf (eventsIn text))) (OutOfForm (stop Start text))) (ap mayEnd (sym leads-to) ∙ e))
+      ap inForm (left-none (eventsIn text) (addedOf n (endedOf s)) l)
+      ∙ sym (ap (λ t. cond t (inForm (countsOf (eventsIn text))) (outOfForm (stop Start text))) (ap mayEnd (sym leads-to) ∙ e))
 
-  pub scanning-short : mayEnd (s .mode) ≡ false → OutOfForm i ≡ scannedOf text
+  pub scanning-short : mayEnd (s .mode) ≡ false → outOfForm i ≡ scannedOf text
   unfolding scannedOf stop
   scanning-short e =
       let t : stop (s .mode) (drop i text) ≡ 0 = ap (λ l. stop (s .mode) l) none in
       let p : i ≡ stop Start text = omega (arith, g .stops, t) in
-      ap OutOfForm p ∙ sym (ap (λ x. cond x (Formed (countsOf (eventsIn text))) (OutOfForm (stop Start text))) (ap mayEnd (sym leads-to) ∙ e))
+      ap outOfForm p ∙ sym (ap (λ x. cond x (inForm (countsOf (eventsIn text))) (outOfForm (stop Start text))) (ap mayEnd (sym leads-to) ∙ e))

@@ -1,7 +1,7 @@
 -- The reader's answer. Assumes nothing.
 use Prim.Native.Nat.{ℕ}
-use mathlib.Core.Bool.{Bool, true, false, cond, _||_}
-use lib.Dec.{ltb}
+use mathlib.Core.Bool.{Bool, cond, _||_}
+use lib.Dec.{ltb, eqb}
 use Rattle.refusals.specs.Numbers.{numberOf, accepted, longText, malformedText, largeNumber, readerRoom}
 use Rattle.path.specs.Verbs.{verbLimit}
 use Rattle.reader.specs.declared.answer.Reading.{Reading}
@@ -22,7 +22,7 @@ withCounts verbs coords = record { number = numberOf accepted; place = 0; verbs 
 abbrev pub withPlace : ℕ → ℕ → ReadAnswer
 withPlace number place = record { number = number; place = place; verbs = 0; coords = 0 }
 
--- the number, the place and both counts
+-- what each case of `read`'s answer stands for: the number, the place and both counts
 abbrev pub readAnswerOf : Reading → ReadAnswer
 readAnswerOf (Path verbs coords) = withCounts verbs coords
 readAnswerOf TooLong = withPlace (numberOf longText) 0
@@ -30,24 +30,21 @@ readAnswerOf (OutOfForm i) = withPlace (numberOf malformedText) i
 readAnswerOf (TooLarge i) = withPlace (numberOf largeNumber) i
 readAnswerOf NoRoom = withPlace (numberOf readerRoom) 0
 
-abbrev pub isPath : Reading → Bool
-isPath (Path verbs coords) = true
-isPath TooLong = false
-isPath (OutOfForm i) = false
-isPath (TooLarge i) = false
-isPath NoRoom = false
+-- "0: accepted"
+abbrev pub isPath : ReadAnswer → Bool
+isPath a = eqb (a .number) (numberOf accepted)
 
 -- "reader's lent verb or coordinate list too short, or over 4,096 verbs"
 abbrev pub isCrowded : ℕ → ℕ → ℕ → ℕ → Bool
 isCrowded verbs coords verbRoom coordRoom = ltb verbRoom verbs || ltb coordRoom coords || ltb verbLimit verbs
 
-abbrev pub roomOf : Counts → ℕ → ℕ → Reading
-roomOf c verbRoom coordRoom = cond (isCrowded (c .verbs) (c .coords) verbRoom coordRoom) NoRoom (Path (c .verbs) (c .coords))
+abbrev pub roomOf : Counts → ℕ → ℕ → ReadAnswer
+roomOf c verbRoom coordRoom = cond (isCrowded (c .verbs) (c .coords) verbRoom coordRoom) (withPlace (numberOf readerRoom) 0) (withCounts (c .verbs) (c .coords))
 
 -- refusals 10 and 11, in their order
-abbrev pub largeOr : Found → Reading → Reading
-largeOr (At i) r = TooLarge i
-largeOr Nowhere r = r
+abbrev pub largeOr : Found → ReadAnswer → ReadAnswer
+largeOr (At i) a = withPlace (numberOf largeNumber) i
+largeOr Nowhere a = a
 
-abbrev pub judgedOf : Counts → ℕ → ℕ → Reading
+abbrev pub judgedOf : Counts → ℕ → ℕ → ReadAnswer
 judgedOf c verbRoom coordRoom = largeOr (c .large) (roomOf c verbRoom coordRoom)

@@ -2,24 +2,38 @@
 use Prim.Native.Nat.{ℕ, _≤_}
 use mathlib.Core.Bool.{cond}
 use mathlib.Core.List.{List}
-use lib.Dec.{ltb}
+use lib.Dec.{ltb, eqb}
 use lib.Ieee.{Float}
 use lib.ListN.{length}
+use Rattle.refusals.specs.Numbers.{numberOf, accepted, longText, malformedText}
 use Rattle.form.specs.declared.machine.Mode.the-variants.{Start}
 use Rattle.form.specs.Machine.{final, mayEnd, stop}
 use Rattle.values.specs.State.{eventsIn}
-use Rattle.reader.specs.declared.answer.Reading.the-variants.{TooLong}
-use Rattle.reader.specs.declared.answer.Reading.the-variants as reading
 use Rattle.reader.specs.declared.counts.Counts.{Counts}
 use Rattle.reader.specs.declared.scan.Scanned.{Scanned}
 use Rattle.reader.specs.declared.scan.Scanned.the-variants.{OutOfForm, Formed}
-use Rattle.reader.specs.Answer.{textLimit, isPath, judgedOf}
-use Rattle.reader.specs.Counts.{verbsOf, coordsOf, countsOf}
+use Rattle.reader.specs.Answer.{textLimit, withPlace, isPath, judgedOf}
+use Rattle.reader.specs.Counts.{verbsOf, coordsOf, noCounts, countsOf}
 use Rattle.reader.specs.Outcome.{Outcome, refused, written}
 
--- what the first pass finds
-unfoldable pub scannedOf : List ℕ → Scanned
-scannedOf text = cond (mayEnd (final Start text)) (Formed (countsOf (eventsIn text))) (OutOfForm (stop Start text))
+-- what the first pass answers: 0 with what the text comes to, or 9 at its place
+pub record ScanAnswer : Type 0 where
+  pub number : ℕ
+  pub place : ℕ
+  pub counts : Counts
+
+abbrev pub inForm : Counts → ScanAnswer
+inForm n = record { number = numberOf accepted; place = 0; counts = n }
+
+abbrev pub outOfForm : ℕ → ScanAnswer
+outOfForm i = record { number = numberOf malformedText; place = i; counts = noCounts }
+
+abbrev pub scanAnswerOf : Scanned → ScanAnswer
+scanAnswerOf (Formed n) = inForm n
+scanAnswerOf (OutOfForm i) = outOfForm i
+
+unfoldable pub scannedOf : List ℕ → ScanAnswer
+scannedOf text = cond (mayEnd (final Start text)) (inForm (countsOf (eventsIn text))) (outOfForm (stop Start text))
 
 -- what the second pass asks for: the whole path fits into the lists
 pub record HasRoom (text v : List ℕ) (c : List Float) : Type 0 where
@@ -32,13 +46,12 @@ module _ (v : List ℕ) (c : List Float) where
   -- of a text of the form
   unfoldable pub formedOf : List ℕ → Counts → Outcome
   formedOf text n =
-      let r = judgedOf n (length v) (length c) in
-      cond (isPath r) (written v c r (verbsOf (eventsIn text)) (coordsOf (eventsIn text))) (refused v c r)
+      let a = judgedOf n (length v) (length c) in
+      cond (isPath a) (written v c a (verbsOf (eventsIn text)) (coordsOf (eventsIn text))) (refused v c a)
 
-  abbrev pub byScan : List ℕ → Scanned → Outcome
-  byScan text (OutOfForm i) = refused v c (reading.OutOfForm i)
-  byScan text (Formed n) = formedOf text n
+  abbrev pub byScan : List ℕ → ScanAnswer → Outcome
+  byScan text a = cond (eqb (a .number) (numberOf accepted)) (formedOf text (a .counts)) (refused v c (withPlace (a .number) (a .place)))
 
 -- "Order is by number within a call."
 unfoldable pub outcomeOf : List ℕ → List ℕ → List Float → Outcome
-outcomeOf text v c = cond (ltb textLimit (length text)) (refused v c TooLong) (byScan v c text (scannedOf text))
+outcomeOf text v c = cond (ltb textLimit (length text)) (refused v c (withPlace (numberOf longText) 0)) (byScan v c text (scannedOf text))

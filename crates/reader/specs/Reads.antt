@@ -6,12 +6,12 @@ use mathlib.Core.Bool.{Bool, true, false}
 use mathlib.Core.List.{List}
 use lib.Ieee.{Float}
 use lib.ListN.{length}
+use Rattle.refusals.specs.Numbers.{numberOf, longText, malformedText, largeNumber, readerRoom}
 use Rattle.form.specs.Form.{Text, text, Wrong}
 use Rattle.values.specs.Meaning.{eventsOf}
-use Rattle.reader.specs.declared.answer.Reading.the-variants.{Path, TooLong, OutOfForm, TooLarge, NoRoom}
 use Rattle.reader.specs.declared.counts.Found.{Found}
 use Rattle.reader.specs.declared.counts.Found.the-variants.{Nowhere, At}
-use Rattle.reader.specs.Answer.{textLimit, isCrowded}
+use Rattle.reader.specs.Answer.{textLimit, withCounts, withPlace, isCrowded}
 use Rattle.reader.specs.Counts.{verbsOf, coordsOf, firstLarge}
 use Rattle.reader.specs.Outcome.{Outcome, refused, written}
 
@@ -36,9 +36,9 @@ pub record TextIs (s : List ℕ) (t : Text) : Type 0 where
 
 -- the bytes s, and the lent lists v and c
 pub data Reads (s v : List ℕ) (c : List Float) : Outcome → Type 0 where
-  too-long : textLimit < length s → Reads s v c (refused v c TooLong)
-  out-of-form : {p : ℕ} → length s ≤ textLimit → Wrong s p → Reads s v c (refused v c (OutOfForm p))
-  too-large : {p : ℕ} (t : Text) → TextIs s t → largeIn t ≡ At p → Reads s v c (refused v c (TooLarge p))
-  no-room : (t : Text) → TextIs s t → largeIn t ≡ Nowhere → crowded v c t ≡ true → Reads s v c (refused v c NoRoom)
+  too-long : textLimit < length s → Reads s v c (refused v c (withPlace (numberOf longText) 0))
+  out-of-form : {p : ℕ} → length s ≤ textLimit → Wrong s p → Reads s v c (refused v c (withPlace (numberOf malformedText) p))
+  too-large : {p : ℕ} (t : Text) → TextIs s t → largeIn t ≡ At p → Reads s v c (refused v c (withPlace (numberOf largeNumber) p))
+  no-room : (t : Text) → TextIs s t → largeIn t ≡ Nowhere → crowded v c t ≡ true → Reads s v c (refused v c (withPlace (numberOf readerRoom) 0))
   path : (t : Text) → TextIs s t → largeIn t ≡ Nowhere → crowded v c t ≡ false
-      → Reads s v c (written v c (Path (length (verbsIn t)) (length (coordsIn t))) (verbsIn t) (coordsIn t))
+      → Reads s v c (written v c (withCounts (length (verbsIn t)) (length (coordsIn t))) (verbsIn t) (coordsIn t))

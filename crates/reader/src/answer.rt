@@ -29,7 +29,7 @@ pub struct ReadAnswer {
 
 // Refusal 11, by what a text of the form comes to and the places that are lent.
 fn room(c: Counts, verb_room: usize, coord_room: usize) -> Reading
-    ensures { λ r. ⌜ r ≡ roomOf c «verb_room» «coord_room» ⌝ }
+    ensures { λ r. ⌜ readAnswerOf r ≡ roomOf c «verb_room» «coord_room» ⌝ }
 {
     if verb_room < c.verbs {
         return Reading::NoRoom;
@@ -45,7 +45,7 @@ fn room(c: Counts, verb_room: usize, coord_room: usize) -> Reading
 
 // Refusals 10 and 11.
 pub(crate) fn judged(c: Counts, verb_room: usize, coord_room: usize) -> Reading
-    ensures { λ r. ⌜ r ≡ judgedOf c «verb_room» «coord_room» ⌝ }
+    ensures { λ r. ⌜ readAnswerOf r ≡ judgedOf c «verb_room» «coord_room» ⌝ }
 {
     let large = c.large;
     match large {
@@ -55,15 +55,10 @@ pub(crate) fn judged(c: Counts, verb_room: usize, coord_room: usize) -> Reading
 }
 
 pub(crate) fn is_path(r: Reading) -> bool
-    ensures { λ t. ⌜ t ≡ isPath r ⌝ }
+    ensures { λ t. ⌜ t ≡ isPath (readAnswerOf r) ⌝ }
 {
-    match r {
-        Reading::Path(_, _) => true,
-        Reading::TooLong => false,
-        Reading::OutOfForm(_) => false,
-        Reading::TooLarge(_) => false,
-        Reading::NoRoom => false,
-    }
+    let a = read_answer_of(r);
+    a.number == 0
 }
 
 // The number, the place and both counts that an answer stands for.

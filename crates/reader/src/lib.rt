@@ -14,18 +14,17 @@ use crate::write::write;
 ghost use mathlib.Core.Path.{_≡_};
 ghost use Prim.Native.Nat.{_≤_};
 ghost use lib.ListN.{length};
-ghost use Rattle.reader.specs.Answer.{textLimit};
-ghost use Rattle.reader.specs.Read.{formedOf, scannedOf};
+ghost use Rattle.reader.specs.Answer.{textLimit, readAnswerOf};
+ghost use Rattle.reader.specs.Read.{inForm, formedOf, scannedOf};
 ghost use Rattle.reader.specs.Reads.{Reads};
-ghost use Rattle.reader.specs.declared.scan.Scanned.the-variants.{Formed};
 
 // No path text has more bytes than this (refusal 8).
 pub const TEXT_LIMIT: usize = 16384;
 
 // A text of the form is judged by its counts, and written where nothing is refused.
 fn read_formed(text: &[u8], verbs: &mut [u8], coords: &mut [f32], counts: Counts) -> Reading
-    requires { ⌜ (length (now text) ≤ textLimit) × (scannedOf (now text) ≡ Formed counts) ⌝ }
-    ensures { λ r. ⌜ record { answer = r; verbs = now (verbs .exit); coords = now (coords .exit) } ≡ formedOf (now (verbs .entry)) (now (coords .entry)) (now (text .entry)) counts ⌝ }
+    requires { ⌜ (length (now text) ≤ textLimit) × (scannedOf (now text) ≡ inForm counts) ⌝ }
+    ensures { λ r. ⌜ record { answer = readAnswerOf r; verbs = now (verbs .exit); coords = now (coords .exit) } ≡ formedOf (now (verbs .entry)) (now (coords .entry)) (now (text .entry)) counts ⌝ }
 {
     let answer = judged(counts, verbs.len(), coords.len());
     if is_path(answer) {
@@ -37,7 +36,7 @@ fn read_formed(text: &[u8], verbs: &mut [u8], coords: &mut [f32], counts: Counts
 // Reads a path text. The verbs go to the start of one list, the coordinates to the start of the other. A refusal changes
 // neither.
 pub fn read(text: &[u8], verbs: &mut [u8], coords: &mut [f32]) -> Reading
-    ensures { λ r. ⌜ Reads (now (text .entry)) (now (verbs .entry)) (now (coords .entry)) (record { answer = r; verbs = now (verbs .exit); coords = now (coords .exit) }) ⌝ }
+    ensures { λ r. ⌜ Reads (now (text .entry)) (now (verbs .entry)) (now (coords .entry)) (record { answer = readAnswerOf r; verbs = now (verbs .exit); coords = now (coords .exit) }) ⌝ }
 {
     if TEXT_LIMIT < text.len() {
         return Reading::TooLong;

@@ -12,7 +12,7 @@ ghost use mathlib.Core.Path.{_≡_};
 ghost use Prim.Native.Nat.{_≤_};
 ghost use lib.ListN.{length};
 ghost use Rattle.reader.specs.Answer.{textLimit};
-ghost use Rattle.reader.specs.Read.{scannedOf};
+ghost use Rattle.reader.specs.Read.{scanAnswerOf, scannedOf};
 
 pub enum Scanned {
     // The place of refusal 9.
@@ -22,7 +22,7 @@ pub enum Scanned {
 
 pub(crate) fn scan(text: &[u8]) -> Scanned
     requires { ⌜ length (now text) ≤ textLimit ⌝ }
-    ensures { λ r. ⌜ r ≡ scannedOf (now (text .entry)) ⌝ }
+    ensures { λ r. ⌜ scanAnswerOf r ≡ scannedOf (now (text .entry)) ⌝ }
 {
     let mut s = start();
     let mut c = no_counts();

@@ -1,5 +1,5 @@
 -- What a run draws, counted, and demand 3 of it: an empty cap is two triangles over four vertices, and a strip has strip's facts. Assumes nothing.
-use Prim.Native.Nat.{ℕ, _+_, _-_, _*_, _≤_}
+use Prim.Native.Nat.{ℕ, _+_, _*_, _≤_}
 use mathlib.Core.Path.{_≡_, refl, sym, _∙_}
 use mathlib.Core.Bool.{Bool, true, false, cond}
 use mathlib.Core.List.{List, [], _∷_}
@@ -21,7 +21,7 @@ use Rattle.strip.proofs.Facts.Counts.{vertices-are, open-count, closed-count}
 use Rattle.strip.proofs.Facts.Owns.{open-own, closed-own}
 use Rattle.strip.proofs.Facts.Named.{open-named, closed-named}
 use Rattle.strip.proofs.Facts.Shares.{in-a, in-b, in-c, in-none, open-linked, closed-linked}
-use Rattle.run.specs.Facts.{Numbers, Covers}
+use Rattle.run.specs.Facts.{Numbers, Alone, Counts, Covers}
 use Rattle.run.specs.Run.{nothing, emptyCap, drawsCap, shapeOfKept, shapeOf, shapeCount, shapeTriangles}
 
 -- ---- a strip of two joints or more
@@ -91,11 +91,22 @@ kept-numbers o closed lines k (p ∷ q ∷ ks) h =
     let l = joints-length closed o p q ks in
     rw (← l) (strip-numbers closed k (jointsOf closed o (p ∷ q ∷ ks)) (omega arith))
 
+kept-counts : (o : Stroke) (closed lines : Bool) (k : ℕ) (ks : List Endpoint)
+    → Counts closed (drawsCap o closed lines) (length ks) (pairSides (jointsOf closed o ks)) (shapeCount (shapeOfKept o closed lines ks)) (length (shapeTriangles closed k (shapeOfKept o closed lines ks)))
+unfolding shapeCount shapeTriangles
+kept-counts o closed lines k [] = (refl, refl)
+kept-counts o closed lines k (p ∷ []) = go (drawsCap o closed lines)
+  where
+    go : (b : Bool) → Alone b (shapeCount (cond b (emptyCap p) nothing)) (length (shapeTriangles closed k (cond b (emptyCap p) nothing)))
+    go true = record { vertices = refl; triangles = refl }
+    go false = record { vertices = refl; triangles = refl }
+kept-counts o closed lines k (p ∷ q ∷ ks) = kept-numbers o closed lines k (p ∷ q ∷ ks) (omega arith)
+
 module _ (o : Stroke) (closed : Bool) (k : ℕ) (ps : List Endpoint) where
-  pub run-numbers : 2 ≤ length (keptPoints closed ps)
-      → Numbers closed (length (keptPoints closed ps)) (pairSides (jointsOf closed o (keptPoints closed ps))) (shapeCount (shapeOf o closed ps)) (length (shapeTriangles closed k (shapeOf o closed ps)))
+  pub run-counts : let kept = keptPoints closed ps in
+      Counts closed (drawsCap o closed (ltb 1 (length ps))) (length kept) (pairSides (jointsOf closed o kept)) (shapeCount (shapeOf o closed ps)) (length (shapeTriangles closed k (shapeOf o closed ps)))
   unfolding shapeOf
-  run-numbers = kept-numbers o closed (ltb 1 (length ps)) k (keptPoints closed ps)
+  run-counts = kept-counts o closed (ltb 1 (length ps)) k (keptPoints closed ps)
 
 -- ---- bounds: at most four vertices to a point, no more triangles than vertices, wherever the numbers begin
 pairs-few : (js : List EndpointData) → pairSides js ≤ 2 * length js

@@ -12,26 +12,23 @@ use Rattle.plane.specs.Vector.{point}
 use Rattle.plane.specs.declared.normal.JoinDirection.{JoinDirection}
 use Rattle.plane.specs.declared.normal.NormalAnswer.{NormalAnswer}
 use Rattle.path.specs.declared.options.Options.{Options}
-use Rattle.mesh.specs.Answer.{meshAnswerOf}
 use Rattle.mesh.specs.Mesh.{outcomeOf}
-use Rattle.mesh.specs.declared.answer.Meshed.{Meshed}
 use Rattle.mesh.specs.declared.answer.MeshAnswer.{MeshAnswer}
-use Rattle.reader.specs.Answer.{readAnswerOf}
 use Rattle.reader.specs.Outcome as reader
 use Rattle.reader.specs.Reads.{Reads}
 use Rattle.reader.specs.declared.answer.ReadAnswer.{ReadAnswer}
 use Rattle.stipeharbor.specs.Calls.{tessellateOutOf, readOutOf, ReadsOut, rootOutOf, RootsOut, normalOutOf}
 
-pub tessellated : (verbs : List ℕ) (coords : List Float) (options : Options) (v v' : List Float) (t t' answer : List ℕ) (r : Meshed)
+pub tessellated : (verbs : List ℕ) (coords : List Float) (options : Options) (v v' : List Float) (t t' answer : List ℕ) (r : MeshAnswer)
     → record { answer = r; vertices = v'; triangles = t' } ≡ outcomeOf verbs coords options v t
-    → (a : MeshAnswer) → a ≡ meshAnswerOf r
+    → (a : MeshAnswer) → a ≡ r
     → (answer' : List ℕ) → answer' ≡ over (a .place ∷ a .vertices ∷ a .triangles ∷ []) answer
     → record { number = a .number; answer = answer'; vertices = v'; triangles = t' } ≡ tessellateOutOf verbs coords options v t answer
 unfolding tessellateOutOf
 tessellated verbs coords options v v' t t' answer r h a e answer' w = rw (← h, ← e, w)
 
 pub reads-out : (text verbs : List ℕ) (coords : List Float) (answer : List ℕ) (o : reader.Outcome) → Reads text verbs coords o
-    → (a : ReadAnswer) → a ≡ readAnswerOf (o .answer)
+    → (a : ReadAnswer) → a ≡ o .answer
     → (answer' : List ℕ) → answer' ≡ over (a .place ∷ a .verbs ∷ a .coords ∷ []) answer
     → ReadsOut text verbs coords answer (record { number = a .number; answer = answer'; verbs = o .verbs; coords = o .coords })
 unfolding readOutOf

@@ -10,9 +10,7 @@ use Rattle.root.specs.declared.Answer.{Answer}
 use Rattle.plane.specs.Normal.{computeNormalOf}
 use Rattle.plane.specs.Vector.{point}
 use Rattle.path.specs.declared.options.Options.{Options}
-use Rattle.mesh.specs.Answer.{meshAnswerOf}
 use Rattle.mesh.specs.Mesh.{outcomeOf}
-use Rattle.reader.specs.Answer.{readAnswerOf}
 use Rattle.reader.specs.Outcome as reader
 use Rattle.reader.specs.Reads.{Reads}
 
@@ -27,7 +25,7 @@ pub record Tessellated : Type 0 where
 unfoldable pub tessellateOutOf : List ℕ → List Float → Options → List Float → List ℕ → List ℕ → Tessellated
 tessellateOutOf verbs coords options v t answer =
     let o = outcomeOf verbs coords options v t in
-    let a = meshAnswerOf (o .answer) in
+    let a = o .answer in
     record { number = a .number; answer = over (a .place ∷ a .vertices ∷ a .triangles ∷ []) answer; vertices = o .vertices; triangles = o .triangles }
 
 -- ---- stipeharbor_read
@@ -40,7 +38,7 @@ pub record ReadOut : Type 0 where
 -- of an outcome of the reader: "place", then "both counts (verbs and coordinates in the reader)"
 unfoldable pub readOutOf : reader.Outcome → List ℕ → ReadOut
 readOutOf o answer =
-    let a = readAnswerOf (o .answer) in
+    let a = o .answer in
     record { number = a .number; answer = over (a .place ∷ a .verbs ∷ a .coords ∷ []) answer; verbs = o .verbs; coords = o .coords }
 
 -- The reader allows one outcome, so there is one `out`: `read-out-one` of proofs/Unique.antt.

@@ -7,20 +7,17 @@ use native.Mathlib.Nat.{zero-min, min-zero, suc-min-suc}
 use lib.Dec.{eqb}
 use lib.Ieee.{Float, binary32, ofBits}
 use lib.ListN.{length, take, replicate}
-use Rattle.reader.specs.Answer.{readAnswerOf}
 use Rattle.reader.specs.Outcome.{Outcome}
 use Rattle.reader.specs.Reads.{Reads}
 use Rattle.reader.specs.declared.answer.ReadAnswer.{ReadAnswer}
-use Rattle.mesh.specs.Answer.{meshAnswerOf}
 use Rattle.mesh.specs.Mesh as mesh
 use Rattle.mesh.specs.declared.answer.MeshAnswer.{MeshAnswer}
-use Rattle.mesh.specs.declared.answer.Meshed.{Meshed}
 use Rattle.stripe.specs.Drawing.{Drawing, Draws, optionsOf, byMesh, strokedOf, drawingOf}
 use Rattle.stripe.specs.declared.drawing.Drawn.the-variants.{Mesh, Refused}
 
 -- ---- a path stroked
-module _ (vs : List ℕ) (cs : List Float) (v v' : List Float) (t t' : List ℕ) (r : Meshed)
-    (h : record { answer = r; vertices = v'; triangles = t' } ≡ mesh.outcomeOf vs cs optionsOf v t) (a : MeshAnswer) (e : a ≡ meshAnswerOf r) where
+module _ (vs : List ℕ) (cs : List Float) (v v' : List Float) (t t' : List ℕ) (r : MeshAnswer)
+    (h : record { answer = r; vertices = v'; triangles = t' } ≡ mesh.outcomeOf vs cs optionsOf v t) (a : MeshAnswer) (e : a ≡ r) where
   pub stroked-mesh : eqb (a .number) 0 ≡ true → record { drawn = Mesh (a .vertices) (a .triangles); vertices = v'; triangles = t' } ≡ strokedOf v t vs cs
   unfolding strokedOf byMesh
   stroked-mesh n = rw (← h, ← e, n)
@@ -40,7 +37,7 @@ within : {A : Type 0} (n k room : ℕ) (xs : List A) → k ≡ min n room → le
 within n k room xs e l = ap (λ (j : ℕ). take j xs) (e ∙ ap (λ (j : ℕ). min n j) (sym l)) ∙ take-min n xs
 
 module _ (s : List ℕ) (v : List Float) (t : List ℕ) (o : Outcome) (reads : Reads s (replicate 1024 0) (replicate 2048 (ofBits binary32 0)) o)
-    (a : ReadAnswer) (e : a ≡ readAnswerOf (o .answer)) where
+    (a : ReadAnswer) (e : a ≡ o .answer) where
   refused-is : eqb (a .number) 0 ≡ false → record { drawn = Refused (a .number) (a .place); vertices = v; triangles = t } ≡ drawingOf v t o
   unfolding drawingOf
   refused-is n = rw (← e, n)

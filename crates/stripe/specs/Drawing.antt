@@ -8,10 +8,8 @@ use lib.Ieee.{Float, binary32, ofBits}
 use lib.ListN.{take, replicate}
 use Rattle.refusals.specs.Numbers.{numberOf, accepted}
 use Rattle.path.specs.declared.options.Options.{Options}
-use Rattle.reader.specs.Answer.{readAnswerOf}
 use Rattle.reader.specs.Outcome.{Outcome}
 use Rattle.reader.specs.Reads.{Reads}
-use Rattle.mesh.specs.Answer.{meshAnswerOf}
 use Rattle.mesh.specs.Mesh.{outcomeOf}
 use Rattle.mesh.specs.declared.answer.MeshAnswer.{MeshAnswer}
 use Rattle.stripe.specs.declared.drawing.Drawn.{Drawn}
@@ -36,12 +34,12 @@ module _ (v : List Float) (t : List ℕ) where
   unfoldable pub strokedOf : List ℕ → List Float → Drawing
   strokedOf verbs coords =
       let o = outcomeOf verbs coords optionsOf v t in
-      record { drawn = byMesh (meshAnswerOf (o .answer)); vertices = o .vertices; triangles = o .triangles }
+      record { drawn = byMesh (o .answer); vertices = o .vertices; triangles = o .triangles }
 
   -- of what the reader answered and left in its lists: its refusal, or its path
   unfoldable pub drawingOf : Outcome → Drawing
   drawingOf o =
-      let a = readAnswerOf (o .answer) in
+      let a = o .answer in
       cond (eqb (a .number) (numberOf accepted)) (strokedOf (take (a .verbs) (o .verbs)) (take (a .coords) (o .coords)))
       (record { drawn = Refused (a .number) (a .place); vertices = v; triangles = t })
 

@@ -1,6 +1,8 @@
 -- `mesh::mesh_stroked` meets its contract. Assumes nothing.
 use borrow.Author.Needs.{needs}
-use mathlib.Core.Path.{sym, _∙_}
+use mathlib.Core.Path.{sym, ap, _∙_}
+use Rattle.path.specs.Path.{checkAnswerOf}
+use Rattle.path.specs.declared.CheckAnswer.{CheckAnswer}
 use Rattle.path.proofs.Laws.{sound}
 use Rattle.mesh.specs.Mesh.{strokedOf}
 use Rattle.mesh.proofs.mesh_stroked.Statement.{statement}
@@ -13,7 +15,7 @@ enum-told : tie.Need-enum-told
 enum-told c = search needs
 
 mesh-accepted-requires : tie.Need-mesh-accepted-requires
-mesh-accepted-requires c κs = (c .before .before .before .before .before .before .before .before .before .pre, sound _ _ (sym (c .before .before .before .before .check-path .ensures) ∙ c .before .before .enum-told .given .1))
+mesh-accepted-requires c κs = (c .before .before .before .before .before .before .before .before .before .pre, sound _ _ (ap (λ (a : CheckAnswer). a .number) (sym (c .before .before .before .before .check-path .ensures) ∙ ap checkAnswerOf (c .before .before .enum-told .given .1))))
 
 enum-told-2 : tie.Need-enum-told-2
 enum-told-2 c = search needs

@@ -1,6 +1,7 @@
 -- `mesh::tessellate` meets its contract. Assumes nothing.
 use borrow.Author.Needs.{needs}
-use mathlib.Core.Path.{sym, _∙_}
+use mathlib.Core.Path.{sym, ap, _∙_}
+use Rattle.path.specs.Options.{strokeAnswerOf}
 use Rattle.mesh.specs.Mesh.{outcomeOf}
 use Rattle.mesh.proofs.tessellate.Statement.{statement}
 use Rattle.mesh.proofs.tessellate.Tie as tie
@@ -12,7 +13,7 @@ enum-known-o : tie.Need-enum-known-o
 enum-known-o c = search needs
 
 mesh-stroked-requires : tie.Need-mesh-stroked-requires
-mesh-stroked-requires c κs = record { options = c .before .before .before .before .before .before .before .before .before .before .args .options; is = sym (c .before .before .before .before .before .stroke-of .ensures) ∙ c .before .before .before .o .given .1 }
+mesh-stroked-requires c κs = record { options = c .before .before .before .before .before .before .before .before .before .before .args .options; is = sym (c .before .before .before .before .before .stroke-of .ensures) ∙ ap strokeAnswerOf (c .before .before .before .o .given .1) }
 
 enum-told : tie.Need-enum-told
 enum-told c = search needs

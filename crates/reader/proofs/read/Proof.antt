@@ -1,6 +1,7 @@
 -- `reader::read` meets its contract. Assumes nothing.
 use borrow.Author.Needs.{needs}
-use mathlib.Core.Path.{sym, _∙_}
+use mathlib.Core.Path.{sym, ap, _∙_}
+use Rattle.reader.specs.Read.{scanAnswerOf}
 use Rattle.reader.proofs.Meets.{long-so, scan-so, allowed}
 use Rattle.reader.proofs.read.Statement.{statement}
 use Rattle.reader.proofs.read.Tie as tie
@@ -25,7 +26,7 @@ read-formed-requires c κs =
     let at-counts = c .before .before .before in
     let at-scan = at-counts .before .before in
     let at-if1 = at-scan .before in
-    (at-if1 .if1 .left, sym (at-scan .scan .ensures) ∙ at-counts .counts .given .1)
+    (at-if1 .if1 .left, sym (at-scan .scan .ensures) ∙ ap scanAnswerOf (at-counts .counts .given .1))
 
 returns-2 : tie.Need-returns-2
 returns-2 c =
@@ -34,7 +35,7 @@ returns-2 c =
     let at-if1 = at-scan .before in
     let entry = at-if1 .before .before .before .before in
     let a = entry .args in
-    allowed (a .text .now) (a .verbs .now) (a .coords .now) _ (scan-so (a .text .now) _ _ (at-if1 .if1 .left) _ (sym (at-scan .scan .ensures) ∙ at-place .place .given .1))
+    allowed (a .text .now) (a .verbs .now) (a .coords .now) _ (scan-so (a .text .now) _ _ (at-if1 .if1 .left) _ (sym (at-scan .scan .ensures) ∙ ap scanAnswerOf (at-place .place .given .1)))
 
 same-length : tie.Need-same-length
 same-length c = search needs
@@ -50,7 +51,7 @@ returns-3 c =
     let at-if1 = at-scan .before in
     let entry = at-if1 .before .before .before .before in
     let a = entry .args in
-    let read = scan-so (a .text .now) (a .verbs .now) (a .coords .now) (at-if1 .if1 .left) _ (sym (at-scan .scan .ensures) ∙ at-counts .counts .given .1) in
+    let read = scan-so (a .text .now) (a .verbs .now) (a .coords .now) (at-if1 .if1 .left) _ (sym (at-scan .scan .ensures) ∙ ap scanAnswerOf (at-counts .counts .given .1)) in
     allowed (a .text .now) (a .verbs .now) (a .coords .now) _ (read ∙ sym (at-read-formed .read-formed .ensures))
 
 pub read-spec : {M : Type 1} → statement M
