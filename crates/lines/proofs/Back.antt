@@ -16,7 +16,7 @@ use Rattle.lines.specs.Floats.{floatBy, floatOf, floatHex}
 use Rattle.lines.specs.Numbers.{numberOf}
 use Rattle.lines.specs.declared.floats.Float.the-variants as float
 use Rattle.lines.specs.declared.numbers.Number.the-variants.{Value}
-use Rattle.lines.proofs.Placing.{glyph-low, glyph-high, digits-length, one-fewer, places-one, places-more}
+use Rattle.lines.proofs.Placing.{glyph-low, glyph-high, digits-length, one-fewer, places-one, places-more, places-few}
 use Rattle.lines.proofs.Spelling.{digit-low, digit-high}
 
 -- ---- digits
@@ -70,16 +70,6 @@ places-enough (suc k) n h = go (decLe 10 n) (places-enough k (n / 10))
     go (yes m) f =
         rw (places-more k n m, pow-suc) (div-lt-iff-lt-mul (lit< tt) .0 (f (one-fewer 10 (suc k) n (lit< tt) h)))
     go (no f) _ = let l : n < 10 = lt-of-not-le f in rw (places-one (suc k) n l) (omega arith)
-
-pub places-few : (k j n : ℕ) → n < 10 ^ suc j → placesUpTo k n ≤ suc j
-unfolding placesUpTo
-places-few zero j n h = omega arith
-places-few (suc k) j n h = go (decLe 10 n) j h (λ i. places-few k i (n / 10))
-  where
-    go : Dec (10 ≤ n) → (j : ℕ) → n < 10 ^ suc j → ((i : ℕ) → n / 10 < 10 ^ suc i → placesUpTo k (n / 10) ≤ suc i) → placesUpTo (suc k) n ≤ suc j
-    go (no f) j h p = let l : n < 10 = lt-of-not-le f in rw (places-one (suc k) n l) (omega arith)
-    go (yes m) zero h p = absurd (omega arith)
-    go (yes m) (suc j) h p = rw (places-more k n m) (omega (arith, p j (one-fewer 10 (suc j) n (lit< tt) h)))
 
 pub places-some : (k n : ℕ) → 1 ≤ placesUpTo k n
 unfolding placesUpTo

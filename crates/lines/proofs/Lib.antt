@@ -1,4 +1,5 @@
 pub mod Back
+pub mod Behind
 mod Examples
 pub mod Joined
 pub mod Pairs

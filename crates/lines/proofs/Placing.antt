@@ -3,11 +3,12 @@ use Prim.Native.Nat.{ℕ, zero, suc, _+_, _-_, _/_, _%_, _^_, _≤_, _<_}
 use mathlib.Core.Path.{_≡_, refl, sym, ap, _∙_}
 use mathlib.Core.List.{List, [], _∷_, _++_}
 use native.Mathlib.Omega.{arith}
-use native.Mathlib.Nat.{lt-of-lt-of-le, pow-suc, div-lt-iff-lt-mul}
+use native.Mathlib.Decide.{decLe}
+use native.Mathlib.Nat.{lt-of-lt-of-le, lt-of-not-le, pow-suc, div-lt-iff-lt-mul}
 use lib.Dec.{lit<, lit≤}
 use lib.ListN.{length, set, length-append, length-set}
 use borrow.Author.Tests.{lt-ltb, le-ltb}
-use Rattle.lines.specs.Digits.{glyphOf, digitsOf, placesUpTo}
+use Rattle.lines.specs.Digits.{glyphOf, digitsOf, placesUpTo, decimalOf}
 use Rattle.lists.specs.Over.{over}
 
 pub glyph-low : (d : ℕ) → d < 10 → 48 + d ≡ glyphOf d
@@ -72,6 +73,21 @@ places-one (suc k) n h = rw (lt-ltb n 10 h)
 pub places-more : (k n : ℕ) → 10 ≤ n → placesUpTo (suc k) n ≡ suc (placesUpTo k (n / 10))
 unfolding placesUpTo
 places-more k n h = rw (le-ltb n 10 h)
+
+pub places-few : (k j n : ℕ) → n < 10 ^ suc j → placesUpTo k n ≤ suc j
+unfolding placesUpTo
+places-few zero j n h = omega arith
+places-few (suc k) j n h = go (decLe 10 n) j h (λ i. places-few k i (n / 10))
+  where
+    go : Dec (10 ≤ n) → (j : ℕ) → n < 10 ^ suc j → ((i : ℕ) → n / 10 < 10 ^ suc i → placesUpTo k (n / 10) ≤ suc i) → placesUpTo (suc k) n ≤ suc j
+    go (no f) j h p = let l : n < 10 = lt-of-not-le f in rw (places-one (suc k) n l) (omega arith)
+    go (yes m) zero h p = absurd (omega arith)
+    go (yes m) (suc j) h p = rw (places-more k n m) (omega (arith, p j (one-fewer 10 (suc j) n (lit< tt) h)))
+
+-- a number of 16 bits has five digits at most
+pub decimal-few : (n : ℕ) → n < 65536 → length (decimalOf n) ≤ 5
+unfolding decimalOf
+decimal-few n h = rw (digits-length 10 (placesUpTo 19 n) n) (places-few 19 4 n (lt-of-lt-of-le h (lit≤ tt)))
 
 -- k digits of n are counted, rest is what is left of n, and left more may be found
 pub record Counting (n k rest : ℕ) : Type 0 where

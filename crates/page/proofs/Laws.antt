@@ -1,0 +1,59 @@
+-- What is printed, by an answer's number: the refusal where it is not 0, else what the next call makes of it. Assumes nothing.
+use Prim.Native.Nat.{ℕ, _*_, _≤_}
+use mathlib.Core.Path.{_≡_, refl}
+use mathlib.Core.Bool.{true, false}
+use mathlib.Core.List.{List}
+use native.Mathlib.Omega.{arith}
+use lib.Dec.{eqb}
+use lib.Ieee.{Float, binary32, ofBits}
+use lib.ListN.{take, length-replicate}
+use Rattle.lines.specs.Placed.{Puts}
+use Rattle.reader.specs.Answer.{readAnswerOf}
+use Rattle.reader.specs.Outcome as reader
+use Rattle.reader.specs.Reads.{Reads}
+use Rattle.reader.specs.declared.answer.ReadAnswer.{ReadAnswer}
+use Rattle.mesh.specs.Answer.{meshAnswerOf}
+use Rattle.mesh.specs.Mesh as mesh
+use Rattle.mesh.specs.declared.answer.MeshAnswer.{MeshAnswer}
+use Rattle.page.specs.Page.{optionsOf, verbRoom, coordRoom, vertexRoom, triangleRoom, meshPage, refusedPage, meshPageOf, readPageOf, PutsPage}
+use Rattle.page.proofs.Rooms.{mesh-roomy, read-roomy}
+
+-- ---- what is counted fits into the program's rooms
+pub mesh-within : (vs : List ℕ) (cs : List Float) {o : mesh.Outcome} → o ≡ mesh.outcomeOf vs cs optionsOf vertexRoom triangleRoom
+    → {a : MeshAnswer} → a ≡ meshAnswerOf (o .answer) → a .number ≡ 0 → (a .vertices ≤ 1024) × (a .triangles ≤ 1536)
+mesh-within vs cs {o} h {a} e n =
+    let r = (rw (← h, ← e) at (mesh-roomy vertexRoom triangleRoom vs cs optionsOf)) n in
+    (omega (arith, r .0, length-replicate (5 * 1024) (ofBits binary32 0)), omega (arith, r .1, length-replicate {A = ℕ} (3 * 1536) 0))
+
+pub read-within : {s : List ℕ} {o : reader.Outcome} → Reads s verbRoom coordRoom o → {a : ReadAnswer} → a ≡ readAnswerOf (o .answer) → a .number ≡ 0
+    → (a .verbs ≤ 1024) × (a .coords ≤ 2048)
+read-within {s} {o} h {a} e n =
+    let r = (rw (← e) at (read-roomy s verbRoom coordRoom o h)) n in
+    (omega (arith, r .0, length-replicate {A = ℕ} 1024 0), omega (arith, r .1, length-replicate 2048 (ofBits binary32 0)))
+
+-- what is put, and where
+module _ {xs ys : List ℕ} {k i : ℕ} where
+  -- ---- a path
+  module _ {o p : mesh.Outcome} (h : o ≡ p) {a : MeshAnswer} (e : a ≡ meshAnswerOf (o .answer)) where
+    pub mesh-refused : eqb (a .number) 0 ≡ false → Puts (refusedPage (a .number) (a .place)) k xs i ys → Puts (meshPageOf p) k xs i ys
+    unfolding meshPageOf
+    mesh-refused n q = rw (← h, ← e, n) q
+
+    pub mesh-drawn : eqb (a .number) 0 ≡ true → Puts (meshPage (a .vertices) (a .triangles) (o .vertices) (o .triangles)) k xs i ys → Puts (meshPageOf p) k xs i ys
+    unfolding meshPageOf
+    mesh-drawn n q = rw (← h, ← e, n) q
+
+-- ---- a text
+module _ {s xs ys : List ℕ} {i : ℕ} {o : reader.Outcome} (reads : Reads s verbRoom coordRoom o) where
+  page-of : Puts (readPageOf o) 0 xs i ys → PutsPage s xs i ys
+  page-of p = record { page = readPageOf o; prints = record { outcome = o; reads = reads; printed = refl }; long = omega (arith, p .behind); list = p .list }
+
+  module _ {a : ReadAnswer} (e : a ≡ readAnswerOf (o .answer)) where
+    pub read-refused : eqb (a .number) 0 ≡ false → Puts (refusedPage (a .number) (a .place)) 0 xs i ys → PutsPage s xs i ys
+    unfolding readPageOf
+    read-refused n p = page-of (rw (← e, n) p)
+
+    pub read-stroked : eqb (a .number) 0 ≡ true
+        → Puts (meshPageOf (mesh.outcomeOf (take (a .verbs) (o .verbs)) (take (a .coords) (o .coords)) optionsOf vertexRoom triangleRoom)) 0 xs i ys → PutsPage s xs i ys
+    unfolding readPageOf
+    read-stroked n p = page-of (rw (← e, n) p)

@@ -1,0 +1,6 @@
+-- `Listing` serves the loops over vertices and triangles, `Rooms` says that what is counted was lent, `Laws` what a page is by an answer's number. `Unique`
+-- says that a text has one page.
+pub mod Listing
+pub mod Rooms
+pub mod Laws
+pub mod Unique

@@ -1,2 +1,0 @@
--- `Laws` says what the two branches of each step draw.
-pub mod Laws

@@ -1,2 +1,0 @@
--- `Drawing` is what the program draws of a path text.
-pub mod Drawing
