@@ -1,7 +1,6 @@
 pub mod Back
 pub mod Behind
 mod Examples
-pub mod Joined
 pub mod Pairs
 pub mod Patterns
 pub mod Placing

@@ -4,5 +4,5 @@ pub mod byte_lists;
 mod digits;
 pub mod floats;
 pub mod numbers;
-pub mod prints;
+mod prints;
 pub mod words;

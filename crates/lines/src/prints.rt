@@ -9,7 +9,7 @@ ghost use Rattle.lines.specs.Floats.{floatHex};
 ghost use Rattle.lists.specs.Over.{over};
 
 // Puts n in decimal, and answers how many digits that took.
-pub fn put_decimal(out: &mut [u8], n: u64) -> usize
+pub(crate) fn put_decimal(out: &mut [u8], n: u64) -> usize
     requires { ⌜ 20 ≤ length (now out) ⌝ }
     ensures { λ r. ⌜ r ≡ length (decimalOf n) ⌝ }
     ensures { λ r. ⌜ r ≤ 20 ⌝ }
@@ -21,7 +21,7 @@ pub fn put_decimal(out: &mut [u8], n: u64) -> usize
 }
 
 // Puts the last k hex digits of n.
-pub fn put_hex(out: &mut [u8], n: u64, k: usize)
+pub(crate) fn put_hex(out: &mut [u8], n: u64, k: usize)
     requires { ⌜ k ≤ length (now out) ⌝ }
     ensures { λ _. ⌜ now (out .exit) ≡ over (hexOf k n) (now (out .entry)) ⌝ }
 {
@@ -29,7 +29,7 @@ pub fn put_hex(out: &mut [u8], n: u64, k: usize)
 }
 
 // Puts the eight hex digits of a float.
-pub fn put_float(out: &mut [u8], x: f32)
+pub(crate) fn put_float(out: &mut [u8], x: f32)
     requires { ⌜ 8 ≤ length (now out) ⌝ }
     ensures { λ _. ⌜ now (out .exit) ≡ over (floatHex x) (now (out .entry)) ⌝ }
 {

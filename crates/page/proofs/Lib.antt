@@ -4,3 +4,4 @@ pub mod Listing
 pub mod Rooms
 pub mod Laws
 pub mod Unique
+pub mod Tells

@@ -2,10 +2,11 @@
 use crate::buffer::Buffer;
 use crate::buffer::Printed;
 use crate::buffer::with_room;
-use lines::prints::put_decimal;
-use lines::prints::put_float;
-use lines::prints::put_hex;
-ghost use Prim.Native.Nat.{_+_, _≤_};
+use lines::at::decimal_at;
+use lines::at::float_at;
+use lines::at::hex_byte_at;
+use lines::at::text_at;
+ghost use Prim.Native.Nat.{_≤_};
 ghost use lib.ListN.{length};
 
 // Prints a short text.
@@ -32,7 +33,7 @@ pub fn decimal(out: &mut Buffer, p: Printed, n: u64) -> Printed {
 pub fn hex(out: &mut Buffer, p: Printed, x: f32) -> Printed {
     let q = with_room(out, p);
     Printed {
-        waiting: hex_at(out, q.waiting, x),
+        waiting: float_at(out, q.waiting, x),
         open: q.open,
     }
 }
@@ -64,31 +65,4 @@ pub fn number(out: &mut Buffer, p: Printed, n: u64) -> Printed {
 pub fn float(out: &mut Buffer, p: Printed, x: f32) -> Printed {
     let q = space(out, p);
     hex(out, q, x)
-}
-
-// These four put what their callers print at a place of the buffer, and answer the place behind it.
-fn text_at(out: &mut [u8], at: usize, bytes: &[u8]) -> usize
-    requires { ⌜ at + length (now bytes) ≤ length (now out) ⌝ }
-{
-    at + bytes::copy(bytes, &mut out[at..])
-}
-
-fn decimal_at(out: &mut [u8], at: usize, n: u64) -> usize
-    requires { ⌜ at + 20 ≤ length (now out) ⌝ }
-{
-    at + put_decimal(&mut out[at..], n)
-}
-
-fn hex_at(out: &mut [u8], at: usize, x: f32) -> usize
-    requires { ⌜ at + 8 ≤ length (now out) ⌝ }
-{
-    put_float(&mut out[at..], x);
-    at + 8
-}
-
-fn hex_byte_at(out: &mut [u8], at: usize, b: u8) -> usize
-    requires { ⌜ at + 2 ≤ length (now out) ⌝ }
-{
-    put_hex(&mut out[at..], b as u64, 2);
-    at + 2
 }
