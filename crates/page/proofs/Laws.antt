@@ -8,11 +8,9 @@ use lib.Dec.{eqb}
 use lib.Ieee.{Float, binary32, ofBits}
 use lib.ListN.{take, length-replicate}
 use Rattle.lines.specs.Placed.{Puts}
-use Rattle.reader.specs.Answer.{readAnswerOf}
 use Rattle.reader.specs.Outcome as reader
 use Rattle.reader.specs.Reads.{Reads}
 use Rattle.reader.specs.declared.answer.ReadAnswer.{ReadAnswer}
-use Rattle.mesh.specs.Answer.{meshAnswerOf}
 use Rattle.mesh.specs.Mesh as mesh
 use Rattle.mesh.specs.declared.answer.MeshAnswer.{MeshAnswer}
 use Rattle.page.specs.Page.{optionsOf, verbRoom, coordRoom, vertexRoom, triangleRoom, meshPage, refusedPage, meshPageOf, readPageOf, PutsPage}
@@ -20,12 +18,12 @@ use Rattle.page.proofs.Rooms.{mesh-roomy, read-roomy}
 
 -- ---- what is counted fits into the program's rooms
 pub mesh-within : (vs : List ℕ) (cs : List Float) {o : mesh.Outcome} → o ≡ mesh.outcomeOf vs cs optionsOf vertexRoom triangleRoom
-    → {a : MeshAnswer} → a ≡ meshAnswerOf (o .answer) → a .number ≡ 0 → (a .vertices ≤ 1024) × (a .triangles ≤ 1536)
+    → {a : MeshAnswer} → a ≡ o .answer → a .number ≡ 0 → (a .vertices ≤ 1024) × (a .triangles ≤ 1536)
 mesh-within vs cs {o} h {a} e n =
     let r = (rw (← h, ← e) at (mesh-roomy vertexRoom triangleRoom vs cs optionsOf)) n in
     (omega (arith, r .0, length-replicate (5 * 1024) (ofBits binary32 0)), omega (arith, r .1, length-replicate {A = ℕ} (3 * 1536) 0))
 
-pub read-within : {s : List ℕ} {o : reader.Outcome} → Reads s verbRoom coordRoom o → {a : ReadAnswer} → a ≡ readAnswerOf (o .answer) → a .number ≡ 0
+pub read-within : {s : List ℕ} {o : reader.Outcome} → Reads s verbRoom coordRoom o → {a : ReadAnswer} → a ≡ o .answer → a .number ≡ 0
     → (a .verbs ≤ 1024) × (a .coords ≤ 2048)
 read-within {s} {o} h {a} e n =
     let r = (rw (← e) at (read-roomy s verbRoom coordRoom o h)) n in
@@ -34,7 +32,7 @@ read-within {s} {o} h {a} e n =
 -- what is put, and where
 module _ {xs ys : List ℕ} {k i : ℕ} where
   -- ---- a path
-  module _ {o p : mesh.Outcome} (h : o ≡ p) {a : MeshAnswer} (e : a ≡ meshAnswerOf (o .answer)) where
+  module _ {o p : mesh.Outcome} (h : o ≡ p) {a : MeshAnswer} (e : a ≡ o .answer) where
     pub mesh-refused : eqb (a .number) 0 ≡ false → Puts (refusedPage (a .number) (a .place)) k xs i ys → Puts (meshPageOf p) k xs i ys
     unfolding meshPageOf
     mesh-refused n q = rw (← h, ← e, n) q
@@ -48,7 +46,7 @@ module _ {s xs ys : List ℕ} {i : ℕ} {o : reader.Outcome} (reads : Reads s ve
   page-of : Puts (readPageOf o) 0 xs i ys → PutsPage s xs i ys
   page-of p = record { page = readPageOf o; prints = record { outcome = o; reads = reads; printed = refl }; long = omega (arith, p .behind); list = p .list }
 
-  module _ {a : ReadAnswer} (e : a ≡ readAnswerOf (o .answer)) where
+  module _ {a : ReadAnswer} (e : a ≡ o .answer) where
     pub read-refused : eqb (a .number) 0 ≡ false → Puts (refusedPage (a .number) (a .place)) 0 xs i ys → PutsPage s xs i ys
     unfolding readPageOf
     read-refused n p = page-of (rw (← e, n) p)

@@ -4,8 +4,8 @@ use mathlib.Core.Path.{_≡_, refl, sym}
 use mathlib.Core.Bool.{Bool, true, false, cond, _||_, false≢true}
 use mathlib.Core.List.{List}
 use native.Mathlib.Omega.{arith}
-use borrow.Author.Tests.{ltb-false}
-use lib.Dec.{ltb}
+use borrow.Author.Tests.{ltb-false, eq-eqb}
+use lib.Dec.{ltb, eqb}
 use lib.Ieee.{Float}
 use lib.ListN.{length}
 use Rattle.endpoint.specs.declared.Endpoint.{Endpoint}
@@ -13,25 +13,19 @@ use Rattle.path.specs.Options.{strokeOf}
 use Rattle.path.specs.Path.{checkedOf}
 use Rattle.path.specs.Runs.{Run}
 use Rattle.path.specs.Verbs.{verbLimit}
-use Rattle.path.specs.declared.Checked.{Checked}
-use Rattle.path.specs.declared.Checked.the-variants as checked
 use Rattle.path.specs.declared.options.Options.{Options}
 use Rattle.path.specs.declared.options.Stroke.{Stroke}
-use Rattle.path.specs.declared.options.StrokeAnswer.{StrokeAnswer}
-use Rattle.path.specs.declared.options.StrokeAnswer.the-variants as stroke
 use Rattle.drive.specs.Runs.{runsOf, meshCounts}
-use Rattle.reader.specs.Answer.{readAnswerOf}
 use Rattle.reader.specs.Outcome as reader
 use Rattle.reader.specs.Reads.{Reads, too-long, out-of-form, too-large, no-room, path, verbsIn, coordsIn}
-use Rattle.mesh.specs.Answer.{meshAnswerOf, isMesh, roomedOf, judgedOf}
-use Rattle.mesh.specs.Mesh.{Outcome, refused, drawn, roomFor, acceptedOf, byPath, strokedOf, byOptions, outcomeOf}
-use Rattle.mesh.specs.declared.answer.Meshed.{Meshed}
-use Rattle.mesh.specs.declared.answer.Meshed.the-variants.{Mesh, ShortEdge, VertexRoom, TriangleRoom}
+use Rattle.mesh.specs.Answer.{isMesh, withCounts, withPlace, judgedOf}
+use Rattle.mesh.specs.Mesh.{Outcome, refused, drawn, roomFor, acceptedOf, onceAccepted, strokedOf, outcomeOf}
+use Rattle.mesh.specs.declared.answer.MeshAnswer.{MeshAnswer}
 
 -- ---- the mesh call
 module _ (v : List Float) (t : List ℕ) where
-  abbrev pub Roomy : Meshed → Type 0
-  Roomy r = meshAnswerOf r .number ≡ 0 → (meshAnswerOf r .vertices ≤ length v / 5) × (meshAnswerOf r .triangles ≤ length t / 3)
+  abbrev pub Roomy : MeshAnswer → Type 0
+  Roomy a = a .number ≡ 0 → (a .vertices ≤ length v / 5) × (a .triangles ≤ length t / 3)
 
   room-roomy : (o : Stroke) (rs : List (Run Endpoint)) → Roomy (roomFor v t o rs)
   unfolding judgedOf
@@ -40,7 +34,7 @@ module _ (v : List Float) (t : List ℕ) where
       by (c .short) (c .vertices) (c .triangles) (ltb (c .short) (c .legs)) (ltb (length v / 5) (c .vertices)) (ltb (length t / 3) (c .triangles)) (ltb-false _ _) (ltb-false _ _)
     where
       by : (i n m : ℕ) (short few fewer : Bool) → (few ≡ false → n ≤ length v / 5) → (fewer ≡ false → m ≤ length t / 3)
-          → Roomy (cond short (ShortEdge i) (cond few (VertexRoom n m) (cond fewer (TriangleRoom n m) (Mesh n m))))
+          → Roomy (cond short (withPlace 5 i) (cond few (withCounts 6 n m) (cond fewer (withCounts 7 n m) (withCounts 0 n m))))
       by i n m true few fewer h g e = absurd (omega arith)
       by i n m false true fewer h g e = absurd (omega arith)
       by i n m false false true h g e = absurd (omega arith)
@@ -54,24 +48,24 @@ module _ (v : List Float) (t : List ℕ) where
       by true = room-roomy o rs
       by false = room-roomy o rs
 
-  path-roomy : (k : Checked) (o : Outcome) → Roomy (o .answer) → Roomy (byPath v t k o .answer)
-  path-roomy checked.Accepted o h = h
-  path-roomy checked.TooManyVerbs o h = λ e. absurd (omega arith)
-  path-roomy (checked.Verb i) o h = λ e. absurd (omega arith)
-  path-roomy (checked.Coordinate i) o h = λ e. absurd (omega arith)
-
-  options-roomy : (vs : List ℕ) (cs : List Float) (a : StrokeAnswer) → Roomy (byOptions v t vs cs a .answer)
-  unfolding strokedOf
-  options-roomy vs cs (stroke.Stroke o) = path-roomy (checkedOf vs cs) (acceptedOf v t o (runsOf vs cs)) (accepted-roomy o (runsOf vs cs))
-  options-roomy vs cs stroke.Refused = λ e. absurd (omega arith)
+  -- what is refused before is no 0
+  once-roomy : (number place : ℕ) (next : Outcome) → Roomy (next .answer) → Roomy (onceAccepted v t number place next .answer)
+  once-roomy number place next h = by (eqb number 0) (eq-eqb number 0)
+    where
+      by : (b : Bool) → (number ≡ 0 → b ≡ true) → Roomy (cond b next (refused v t (withPlace number place)) .answer)
+      by true k = h
+      by false k = λ e. absurd (false≢true (k e))
 
   pub mesh-roomy : (vs : List ℕ) (cs : List Float) (o : Options) → Roomy (outcomeOf vs cs o v t .answer)
-  unfolding outcomeOf
-  mesh-roomy vs cs o = options-roomy vs cs (strokeOf o)
+  unfolding outcomeOf strokedOf
+  mesh-roomy vs cs o =
+      let a = strokeOf o in
+      let b = checkedOf vs cs in
+      once-roomy (a .number) (a .place) (strokedOf v t vs cs (a .stroke)) (once-roomy (b .number) (b .place) (acceptedOf v t (a .stroke) (runsOf vs cs)) (accepted-roomy (a .stroke) (runsOf vs cs)))
 
 -- ---- the reader
 pub read-roomy : (s v : List ℕ) (c : List Float) (o : reader.Outcome) → Reads s v c o
-    → readAnswerOf (o .answer) .number ≡ 0 → (readAnswerOf (o .answer) .verbs ≤ length v) × (readAnswerOf (o .answer) .coords ≤ length c)
+    → o .answer .number ≡ 0 → (o .answer .verbs ≤ length v) × (o .answer .coords ≤ length c)
 read-roomy s v c o (too-long h) e = absurd (omega arith)
 read-roomy s v c o (out-of-form h w) e = absurd (omega arith)
 read-roomy s v c o (too-large t is f) e = absurd (omega arith)

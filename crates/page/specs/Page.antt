@@ -13,10 +13,8 @@ use Rattle.lists.specs.Over.{over}
 use Rattle.lines.specs.Digits.{decimalOf}
 use Rattle.lines.specs.Floats.{floatHex}
 use Rattle.path.specs.declared.options.Options.{Options}
-use Rattle.reader.specs.Answer.{readAnswerOf}
 use Rattle.reader.specs.Outcome as reader
 use Rattle.reader.specs.Reads.{Reads}
-use Rattle.mesh.specs.Answer.{meshAnswerOf}
 use Rattle.mesh.specs.Mesh as mesh
 
 -- "width 2, limit 4, Miter, Butt"
@@ -71,13 +69,13 @@ refusedPage number place = line (bytes "refused") (decimalOf number ∷ decimalO
 -- of what the mesh call answered and left in its lists
 unfoldable pub meshPageOf : mesh.Outcome → List ℕ
 meshPageOf o =
-    let a = meshAnswerOf (o .answer) in
+    let a = o .answer in
     cond (eqb (a .number) (numberOf accepted)) (meshPage (a .vertices) (a .triangles) (o .vertices) (o .triangles)) (refusedPage (a .number) (a .place))
 
 -- of what the reader answered and left in its lists: its path is stroked
 unfoldable pub readPageOf : reader.Outcome → List ℕ
 readPageOf o =
-    let a = readAnswerOf (o .answer) in
+    let a = o .answer in
     cond (eqb (a .number) (numberOf accepted)) (meshPageOf (mesh.outcomeOf (take (a .verbs) (o .verbs)) (take (a .coords) (o .coords)) optionsOf vertexRoom triangleRoom))
     (refusedPage (a .number) (a .place))
 
