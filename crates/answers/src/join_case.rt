@@ -6,7 +6,7 @@ use endpoint::EndpointData;
 use endpoint::LineJoin;
 use endpoint::blank;
 use join::edge::edge_of;
-use join::record::join_of;
+use join::record::compute_join_side_positions;
 use lines::floats;
 use lines::numbers;
 use lines::words::Place;
@@ -85,5 +85,12 @@ fn endpoint_at(position: Point, h: f32, advancement: f32, join: LineJoin) -> End
 fn worked(prev: EndRead, e: EndpointData, next: EndRead, limit: f32) -> EndpointData {
     let before = edge_of(prev.point, e.position, e.half_width);
     let after = edge_of(e.position, next.point, e.half_width);
-    join_of(before, e, after, prev.advancement, next.advancement, limit)
+    compute_join_side_positions(
+        before,
+        e,
+        after,
+        prev.advancement,
+        next.advancement,
+        limit,
+    )
 }

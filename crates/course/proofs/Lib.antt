@@ -1,5 +1,3 @@
--- For the layers above: `Walking`, a run point by point is a run of kept points, `Lengths`, how many points, joints and legs there are, and `Counts`,
--- how many points a joint's sides have.
+-- For the layers above: `Walking`, a run point by point is a run of kept points, and `Lengths`, how many points, joints and legs there are.
 pub mod Walking
 pub mod Lengths
-pub mod Counts

@@ -10,8 +10,7 @@ use Rattle.endpoint.specs.declared.Endpoint.{Endpoint}
 use Rattle.endpoint.specs.declared.EndpointData.{EndpointData}
 use Rattle.endpoint.specs.declared.InnerJoin.the-variants.{Neither}
 use Rattle.endpoint.specs.declared.SidePoints.{SidePoints}
-use Rattle.join.specs.Record.{turnOf, cornersOf, sidePositionsOf}
-use Rattle.join.specs.declared.record.Corners.{Corners}
+use Rattle.join.specs.Record.{sidePositionsOf}
 use Rattle.path.specs.declared.options.Stroke.{Stroke}
 use Rattle.course.specs.Leg.{firstLegOf, nextLegOf}
 use Rattle.course.specs.declared.leg.Leg.{Leg}
@@ -35,12 +34,9 @@ dataOf o p a positive negative = record {
 unfoldable pub unworkedOf : Stroke → Leg → EndpointData
 unworkedOf o leg = let none = singleOf (leg .to .position) in dataOf o (leg .to) (leg .end) none none
 
--- the join where a leg ends and the next begins: what is decided of its sides, and the endpoint with them worked
-unfoldable pub cornersAt : Stroke → Leg → Leg → Corners
-cornersAt o leg next = cornersOf (leg .edge) (next .edge) (turnOf (unworkedOf o leg) (leg .start) (next .end) (o .«miter_limit»))
-
+-- the join where a leg ends and the next begins: the endpoint with its sides worked
 unfoldable pub jointOf : Stroke → Leg → Leg → EndpointData
-jointOf o leg next = sidePositionsOf (leg .edge) (unworkedOf o leg) (next .edge) (cornersAt o leg next) (o .«miter_limit»)
+jointOf o leg next = sidePositionsOf (leg .edge) (unworkedOf o leg) (next .edge) (leg .start) (next .end) (o .«miter_limit»)
 
 unfoldable pub capOf : Stroke → Endpoint → Float → Point → Point → Point → EndpointData
 capOf o p a positive negative outward =

@@ -5,17 +5,17 @@ use endpoint::EndpointData;
 use endpoint::InnerJoin;
 use endpoint::SidePoints;
 use endpoint::single;
-use join::record::Corners;
+use join::record::Counts;
 use join::record::compute_join_side_positions;
-use join::record::corners_of;
-use join::record::turn_of;
+use join::record::count_join;
 use path::options::Stroke;
 use plane::vector::Point;
 use plane::vector::negated;
 use plane::vector::plus;
 use plane::vector::times;
 ghost use mathlib.Core.Path.{_≡_};
-ghost use Rattle.course.specs.Joint.{dataOf, unworkedOf, cornersAt, capOf, startCapOf, endCapOf, jointOf};
+ghost use Rattle.join.specs.Record.{countsOf};
+ghost use Rattle.course.specs.Joint.{dataOf, unworkedOf, capOf, startCapOf, endCapOf, jointOf};
 
 // An endpoint with its advancement and its sides.
 fn data_of(
@@ -53,20 +53,32 @@ fn unworked(o: Stroke, leg: Leg) -> EndpointData
     data_of(o, p, leg.end, none, none)
 }
 
-// The join where one leg ends and the next begins: what is decided of its sides.
-pub fn corners_at(o: Stroke, leg: Leg, next: Leg) -> Corners
-    ensures { λ r. ⌜ r ≡ cornersAt o leg next ⌝ }
-{
-    let e = turn_of(unworked(o, leg), leg.start, next.end, o.miter_limit);
-    corners_of(leg.edge, next.edge, e)
-}
-
-// The same, its sides worked.
-pub fn joint_of(o: Stroke, leg: Leg, next: Leg, c: Corners) -> EndpointData
-    requires { ⌜ c ≡ cornersAt o leg next ⌝ }
+// The join where one leg ends and the next begins.
+pub fn joint_of(o: Stroke, leg: Leg, next: Leg) -> EndpointData
     ensures { λ r. ⌜ r ≡ jointOf o leg next ⌝ }
 {
-    compute_join_side_positions(leg.edge, unworked(o, leg), next.edge, c, o.miter_limit)
+    compute_join_side_positions(
+        leg.edge,
+        unworked(o, leg),
+        next.edge,
+        leg.start,
+        next.end,
+        o.miter_limit,
+    )
+}
+
+// How many points its sides have; none is worked.
+pub fn joint_counts(o: Stroke, leg: Leg, next: Leg) -> Counts
+    ensures { λ r. ⌜ r ≡ countsOf (jointOf o leg next) ⌝ }
+{
+    count_join(
+        leg.edge,
+        unworked(o, leg),
+        next.edge,
+        leg.start,
+        next.end,
+        o.miter_limit,
+    )
 }
 
 // The two side points at p, each moved outward by the clip.

@@ -1,20 +1,25 @@
 -- Rule 5 on one side: "The limit is exceeded when the normal's squared length is above limit*limit. Each side is Single with its point or
--- Pair with two points; inner joins and folds without a single point are pairs." The branches are those of `compute_join_side_positions`, in its
--- order and words. Assumes nothing.
+-- Pair with two points; inner joins and folds without a single point are pairs." The branches are those of `compute_join_side_positions`; `Source` has
+-- that routine in its own order and words. Assumes nothing.
+use Prim.Native.Nat.{ℕ}
 use mathlib.Core.Bool.{Bool, true, false, not, _&&_, _||_}
-use lib.Ieee.{Float, lt}
+use lib.Ieee.{Float, lt, ne}
 use Rattle.plane.specs.F32.{_⊖_, _⊗_, f32, above, notBelow}
-use Rattle.plane.specs.Normal.{pick}
+use Rattle.plane.specs.Normal.{pick, normalOf}
 use Rattle.plane.specs.Vector.{plusOf, minusOf, timesOf, negatedOf, dotOf, crossOf, squareLengthOf}
 use Rattle.plane.specs.declared.vector.Point.{Point}
-use Rattle.endpoint.specs.Endpoint.{signOf, pairOf}
-use Rattle.endpoint.specs.Endpoint.{singleOf as singlePoint}
+use Rattle.endpoint.specs.Endpoint.{signOf, singleOf, pairOf}
 use Rattle.endpoint.specs.declared.LineJoin.{LineJoin}
 use Rattle.endpoint.specs.declared.LineJoin.the-variants.{Miter, MiterClip, Bevel}
 use Rattle.endpoint.specs.declared.Side.{Side}
 use Rattle.endpoint.specs.declared.SidePoints.{SidePoints}
 use Rattle.join.specs.Clip.{clippedOf}
+use Rattle.join.specs.declared.edge.EdgeSide.{EdgeSide}
+use Rattle.join.specs.declared.side.Corner.{Corner}
 use Rattle.join.specs.declared.side.Decided.{Decided}
+use Rattle.join.specs.declared.side.JoinSide.{JoinSide}
+use Rattle.join.specs.declared.side.Kind.{Kind}
+use Rattle.join.specs.declared.side.Kind.the-variants.{Inner, Single, Clipped, Beside}
 use Rattle.join.specs.declared.side.Turn.{Turn}
 
 -- Miter and MiterClip have a tip within the limit; MiterClip is cut off beyond it
@@ -28,25 +33,33 @@ isClip Miter = false
 isClip MiterClip = true
 isClip Bevel = false
 
--- `inward` and `normal_same_side`: v0 and v1 are the side's directions before and after the join, along is the sum of the path's
-unfoldable pub inwardOf : Point → Point → Point → Side → Bool
-inwardOf v0 v1 along side = above (crossOf v0 v1 ⊗ signOf side) && notBelow (dotOf (plusOf v0 v1) along)
+-- "Side sign is 1 or -1.": the directions of a side's edges, and the normal between them, times the sign
+unfoldable pub cornerOf : EdgeSide → EdgeSide → Side → Corner
+cornerOf before after side = record { v0 = before .v; v1 = after .v; normal = timesOf (normalOf (before .v) (after .v)) (signOf side); side = side }
+
+-- `inward` and `normal_same_side`
+unfoldable pub inwardOf : Corner → Turn → Bool
+inwardOf c e = above (crossOf (c .v0) (c .v1) ⊗ signOf (c .side)) && notBelow (dotOf (plusOf (c .v0) (c .v1)) (e .along))
+
+-- Rust's `f32::min`: the smaller, or the other where one is a NaN
+unfoldable pub minOf : Float → Float → Float
+minOf a b = pick (ne a a) b (pick (ne b b) a (pick (lt a b) a b))
 
 -- the back vertex, projected on both edges, lies beyond their other ends
-unfoldable pub pastOf : Point → Point → Point → Turn → Bool
-pastOf v0 v1 normal e =
-    let extruded = timesOf normal (e .«half_width») in
-    above (dotOf extruded v1 ⊖ e .after) && above (dotOf extruded (negatedOf v0) ⊖ e .before)
+unfoldable pub pastOf : Corner → Turn → Bool
+pastOf c e =
+    let extruded = timesOf (c .normal) (e .«half_width») in
+    above (minOf (dotOf extruded (c .v1) ⊖ e .after) (dotOf extruded (negatedOf (c .v0)) ⊖ e .before))
 
-unfoldable pub overshootsOf : Bool → Point → Point → Point → Turn → Bool
-overshootsOf inward v0 v1 normal e = inward && pastOf v0 v1 normal e
+unfoldable pub overshootsOf : Bool → Corner → Turn → Bool
+overshootsOf inward c e = inward && pastOf c e
 
 -- a sharp angle whose back vertex overshoots, or whose normal is as good as none (1e-5)
-unfoldable pub foldedOf : Bool → Point → Point → Point → Bool
-foldedOf overshoots v0 v1 normal = not (above (dotOf v0 v1)) && (overshoots || lt (squareLengthOf normal) (f32 0x3727c5ac))
+unfoldable pub foldedOf : Bool → Corner → Bool
+foldedOf overshoots c = not (above (dotOf (c .v0) (c .v1))) && (overshoots || lt (squareLengthOf (c .normal)) (f32 0x3727c5ac))
 
-unfoldable pub foldsOf : Bool → Bool → Point → Point → Point → Bool
-foldsOf inward overshoots v0 v1 normal = inward && foldedOf overshoots v0 v1 normal
+unfoldable pub foldsOf : Bool → Bool → Corner → Bool
+foldsOf inward overshoots c = inward && foldedOf overshoots c
 
 unfoldable pub exceededOf : Point → Float → Bool
 exceededOf normal limit = lt (limit ⊗ limit) (squareLengthOf normal)
@@ -55,28 +68,48 @@ unfoldable pub tipOf : Point → Turn → Bool
 tipOf normal e = isMiter (e .«line_join») && not (exceededOf normal (e .limit))
 
 -- a concave side has a single point unless it overshoots, any other where its tip is within the limit
-unfoldable pub singleOf : Bool → Bool → Point → Turn → Bool
-singleOf concave overshoots normal e = pick concave (not overshoots) (tipOf normal e)
+unfoldable pub kindOf : Bool → Bool → Point → Turn → Kind
+kindOf concave overshoots normal e = pick concave (pick overshoots Inner Single) (pick (tipOf normal e) Single (pick (isClip (e .«line_join»)) Clipped Beside))
 
--- a side is concave where it is inward and does not fold; where it then overshoots it is an inner join
-unfoldable pub decidedOf : Point → Point → Point → Point → Side → Turn → Decided
-decidedOf v0 v1 normal along side e =
-    let inward = inwardOf v0 v1 along side in
-    let overshoots = overshootsOf inward v0 v1 normal e in
-    let fold = foldsOf inward overshoots v0 v1 normal in
-    let concave = inward && not fold in
-    record { single = singleOf concave overshoots normal e; fold = fold; inner = concave && overshoots }
+-- a side is concave where it is inward and does not fold
+unfoldable pub decidedOf : Corner → Turn → Decided
+decidedOf c e =
+    let inward = inwardOf c e in
+    let overshoots = overshootsOf inward c e in
+    let fold = foldsOf inward overshoots c in
+    record { kind = kindOf (inward && not fold) overshoots (c .normal) e; fold = fold }
 
 -- the single point: the crossing of a concave side's edges, or the tip
-unfoldable pub tipPointOf : Point → Point → Float → SidePoints
-tipPointOf normal position h = singlePoint (plusOf position (timesOf normal h))
+unfoldable pub tipPointOf : Point → Turn → SidePoints
+tipPointOf normal e = singleOf (plusOf (e .position) (timesOf normal (e .«half_width»)))
 
 -- the two points, each cut off by rule 6 as an offset from the join's position
-unfoldable pub clippedPairOf : Point → Point → Point → Point → Float → Float → SidePoints
-clippedPairOf prev next normal position h limit =
-    let cut = clippedOf (minusOf prev position) (minusOf next position) normal (limit ⊗ h) in
-    pairOf (plusOf position (cut .prev)) (plusOf position (cut .next))
+unfoldable pub clippedPairOf : Point → Point → Point → Turn → SidePoints
+clippedPairOf prev next normal e =
+    let cut = clippedOf (minusOf prev (e .position)) (minusOf next (e .position)) normal (e .limit ⊗ e .«half_width») in
+    pairOf (plusOf (e .position) (cut .prev)) (plusOf (e .position) (cut .next))
 
-unfoldable pub beyondOf : Bool → Point → Point → Point → Point → Float → Float → LineJoin → SidePoints
-beyondOf inner prev next normal position h limit join =
-    pick (isClip join && not inner) (clippedPairOf prev next normal position h limit) (pairOf prev next)
+-- what each kind stands for: its points, how many they are, and whether it is an inner join
+abbrev pub pointsOf : Kind → Point → Point → Point → Turn → SidePoints
+pointsOf Inner prev next normal e = pairOf prev next
+pointsOf Single prev next normal e = tipPointOf normal e
+pointsOf Clipped prev next normal e = clippedPairOf prev next normal e
+pointsOf Beside prev next normal e = pairOf prev next
+
+abbrev pub kindCountOf : Kind → ℕ
+kindCountOf Inner = 2
+kindCountOf Single = 1
+kindCountOf Clipped = 2
+kindCountOf Beside = 2
+
+abbrev pub isInner : Kind → Bool
+isInner Inner = true
+isInner Single = false
+isInner Clipped = false
+isInner Beside = false
+
+-- a side decided and worked; prev and next are the points beside the join on its edges
+unfoldable pub joinSideOf : Corner → Point → Point → Turn → JoinSide
+joinSideOf c prev next e =
+    let d = decidedOf c e in
+    record { points = pointsOf (d .kind) prev next (c .normal) e; fold = d .fold; inner = isInner (d .kind) }

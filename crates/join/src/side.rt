@@ -1,6 +1,7 @@
 // Rule 5: one side of a join, by the branches of lyon's `compute_join_side_positions`. What is decided comes first, since it is all that
 // a count needs; the points follow from it.
 use crate::clip::get_clip_intersections;
+use crate::edge::EdgeSide;
 use crate::logic::both;
 use crate::logic::either;
 use crate::logic::no;
@@ -10,6 +11,7 @@ use endpoint::SidePoints;
 use endpoint::pair;
 use endpoint::side_sign;
 use endpoint::single;
+use plane::normal::join_normal;
 use plane::vector::Point;
 use plane::vector::cross;
 use plane::vector::dot;
@@ -19,20 +21,45 @@ use plane::vector::plus;
 use plane::vector::square_length;
 use plane::vector::times;
 ghost use mathlib.Core.Path.{_≡_};
-ghost use Rattle.join.specs.Side.{isMiter, isClip, inwardOf, pastOf, overshootsOf, foldedOf, foldsOf, exceededOf, tipOf, singleOf, decidedOf, tipPointOf, clippedPairOf, beyondOf};
+ghost use Rattle.join.specs.Side.{isMiter, isClip, cornerOf, inwardOf, minOf, pastOf, overshootsOf, foldedOf, foldsOf, exceededOf, tipOf, kindOf, decidedOf, kindCountOf, tipPointOf, clippedPairOf, pointsOf, isInner, joinSideOf};
 
-// What both sides of a join see: the half width, the limit, the lengths of the edges before and after it, and its kind.
+// What both sides of a join see: its position, the half width, the limit, the lengths of the edges before and after it, the sum of their
+// directions, and its kind.
 pub struct Turn {
+    pub position: Point,
     pub half_width: f32,
     pub limit: f32,
     pub before: f32,
     pub after: f32,
+    pub along: Point,
     pub line_join: LineJoin,
 }
 
-// A side once it is decided: whether it has a single point, whether it folds, and whether it is an inner join.
+// What one side sees: the directions of its edges, and the normal between them.
+pub struct Corner {
+    pub v0: Point,
+    pub v1: Point,
+    pub normal: Point,
+    pub side: Side,
+}
+
+// Which of the source's branches a side takes: an inner join, a single point, points cut off at the limit, or the points beside the join.
+pub enum Kind {
+    Inner,
+    Single,
+    Clipped,
+    Beside,
+}
+
+// A side once it is decided.
 pub struct Decided {
-    pub single: bool,
+    pub kind: Kind,
+    pub fold: bool,
+}
+
+// A side once it is worked: its points, whether it folds, and whether it is an inner join.
+pub struct JoinSide {
+    pub points: SidePoints,
     pub fold: bool,
     pub inner: bool,
 }
@@ -57,50 +84,78 @@ fn is_clip(j: LineJoin) -> bool
     }
 }
 
-// Whether the side lies inward of the turn, its normal on the side of the path's directions, whose sum is along.
-fn is_inward(v0: Point, v1: Point, along: Point, side: Side) -> bool
-    ensures { λ r. ⌜ r ≡ inwardOf v0 v1 along side ⌝ }
+// The corner that a side's edges before and after the join make.
+pub fn corner_of(before: EdgeSide, after: EdgeSide, side: Side) -> Corner
+    ensures { λ r. ⌜ r ≡ cornerOf before after side ⌝ }
 {
+    let v0 = before.v;
+    let v1 = after.v;
+    Corner {
+        v0: v0,
+        v1: v1,
+        normal: times(join_normal(v0, v1), side_sign(side)),
+        side: side,
+    }
+}
+
+// Whether the side lies inward of the turn, its normal on the side of the path's directions.
+fn is_inward(c: Corner, e: Turn) -> bool
+    ensures { λ r. ⌜ r ≡ inwardOf c e ⌝ }
+{
+    let side = c.side;
     both(
-        cross(v0, v1) * side_sign(side) > 0.0,
-        dot(plus(v0, v1), along) >= 0.0,
+        cross(c.v0, c.v1) * side_sign(side) > 0.0,
+        dot(plus(c.v0, c.v1), e.along) >= 0.0,
     )
 }
 
-// Whether the back vertex ends up further along both edges than their other ends.
-fn is_past(v0: Point, v1: Point, normal: Point, e: Turn) -> bool
-    ensures { λ r. ⌜ r ≡ pastOf v0 v1 normal e ⌝ }
+// Rust's `f32::min`: the smaller, or the other where one is a NaN.
+fn min(a: f32, b: f32) -> f32
+    ensures { λ r. ⌜ r ≡ minOf a b ⌝ }
 {
-    let extruded = times(normal, e.half_width);
-    let d_next = dot(extruded, v1) - e.after;
-    let d_prev = dot(extruded, negated(v0)) - e.before;
-    both(d_next > 0.0, d_prev > 0.0)
+    if b != b {
+        return a;
+    }
+    if a < b {
+        return a;
+    }
+    b
 }
 
-fn overshoots(inward: bool, v0: Point, v1: Point, normal: Point, e: Turn) -> bool
-    ensures { λ r. ⌜ r ≡ overshootsOf inward v0 v1 normal e ⌝ }
+// Whether the back vertex ends up further along both edges than their other ends.
+fn is_past(c: Corner, e: Turn) -> bool
+    ensures { λ r. ⌜ r ≡ pastOf c e ⌝ }
+{
+    let extruded = times(c.normal, e.half_width);
+    let d_next = dot(extruded, c.v1) - e.after;
+    let d_prev = dot(extruded, negated(c.v0)) - e.before;
+    min(d_next, d_prev) > 0.0
+}
+
+fn overshoots(inward: bool, c: Corner, e: Turn) -> bool
+    ensures { λ r. ⌜ r ≡ overshootsOf inward c e ⌝ }
 {
     if inward {
-        return is_past(v0, v1, normal, e);
+        return is_past(c, e);
     }
     false
 }
 
 // Whether an inward side folds, so that no back vertex makes a spike outside of the stripe.
-fn is_folded(overshoots: bool, v0: Point, v1: Point, normal: Point) -> bool
-    ensures { λ r. ⌜ r ≡ foldedOf overshoots v0 v1 normal ⌝ }
+fn is_folded(overshoots: bool, c: Corner) -> bool
+    ensures { λ r. ⌜ r ≡ foldedOf overshoots c ⌝ }
 {
-    if dot(v0, v1) > 0.0 {
+    if dot(c.v0, c.v1) > 0.0 {
         return false;
     }
-    either(overshoots, square_length(normal) < 0.00001)
+    either(overshoots, square_length(c.normal) < 0.00001)
 }
 
-fn folds(inward: bool, overshoots: bool, v0: Point, v1: Point, normal: Point) -> bool
-    ensures { λ r. ⌜ r ≡ foldsOf inward overshoots v0 v1 normal ⌝ }
+fn folds(inward: bool, overshoots: bool, c: Corner) -> bool
+    ensures { λ r. ⌜ r ≡ foldsOf inward overshoots c ⌝ }
 {
     if inward {
-        return is_folded(overshoots, v0, v1, normal);
+        return is_folded(overshoots, c);
     }
     false
 }
@@ -123,69 +178,98 @@ fn has_tip(normal: Point, e: Turn) -> bool
 }
 
 // A concave side has a single point unless it overshoots, any other where its tip is within the limit.
-fn is_single(concave: bool, overshoots: bool, normal: Point, e: Turn) -> bool
-    ensures { λ r. ⌜ r ≡ singleOf concave overshoots normal e ⌝ }
+fn kind_of(concave: bool, overshoots: bool, normal: Point, e: Turn) -> Kind
+    ensures { λ r. ⌜ r ≡ kindOf concave overshoots normal e ⌝ }
 {
     if concave {
-        return no(overshoots);
+        return if overshoots {
+            Kind::Inner
+        } else {
+            Kind::Single
+        };
     }
-    has_tip(normal, e)
+    if has_tip(normal, e) {
+        return Kind::Single;
+    }
+    let line_join = e.line_join;
+    if is_clip(line_join) {
+        return Kind::Clipped;
+    }
+    Kind::Beside
 }
 
-// A side whose edges have the directions v0 and v1, from its normal.
-pub fn decide(v0: Point, v1: Point, normal: Point, along: Point, side: Side, e: Turn) -> Decided
-    ensures { λ r. ⌜ r ≡ decidedOf v0 v1 normal along side e ⌝ }
+pub fn decide(c: Corner, e: Turn) -> Decided
+    ensures { λ r. ⌜ r ≡ decidedOf c e ⌝ }
 {
-    let inward = is_inward(v0, v1, along, side);
-    let back = overshoots(inward, v0, v1, normal, e);
-    let fold = folds(inward, back, v0, v1, normal);
-    let concave = both(inward, no(fold));
+    let inward = is_inward(c, e);
+    let back = overshoots(inward, c, e);
+    let fold = folds(inward, back, c);
     Decided {
-        single: is_single(concave, back, normal, e),
+        kind: kind_of(both(inward, no(fold)), back, c.normal, e),
         fold: fold,
-        inner: both(concave, back),
+    }
+}
+
+// How many points a side has.
+pub fn kind_count(k: Kind) -> usize
+    ensures { λ r. ⌜ r ≡ kindCountOf k ⌝ }
+{
+    match k {
+        Kind::Inner => 2,
+        Kind::Single => 1,
+        Kind::Clipped => 2,
+        Kind::Beside => 2,
     }
 }
 
 // The single point: the end of the normal.
-pub fn tip_point(normal: Point, position: Point, h: f32) -> SidePoints
-    ensures { λ r. ⌜ r ≡ tipPointOf normal position h ⌝ }
+fn tip_point(normal: Point, e: Turn) -> SidePoints
+    ensures { λ r. ⌜ r ≡ tipPointOf normal e ⌝ }
 {
-    single(plus(position, times(normal, h)))
+    single(plus(e.position, times(normal, e.half_width)))
 }
 
 // The points beside the join, cut off at the limit.
-fn clipped_pair(
-    prev: Point,
-    next: Point,
-    normal: Point,
-    position: Point,
-    h: f32,
-    limit: f32,
-) -> SidePoints
-    ensures { λ r. ⌜ r ≡ clippedPairOf prev next normal position h limit ⌝ }
+fn clipped_pair(prev: Point, next: Point, normal: Point, e: Turn) -> SidePoints
+    ensures { λ r. ⌜ r ≡ clippedPairOf prev next normal e ⌝ }
 {
-    let n0 = minus(prev, position);
-    let n1 = minus(next, position);
-    let cut = get_clip_intersections(n0, n1, normal, limit * h);
-    pair(plus(position, cut.prev), plus(position, cut.next))
+    let n0 = minus(prev, e.position);
+    let n1 = minus(next, e.position);
+    let cut = get_clip_intersections(n0, n1, normal, e.limit * e.half_width);
+    pair(plus(e.position, cut.prev), plus(e.position, cut.next))
 }
 
-// The pair of a side without a single point: MiterClip cuts it off, but for an inner join.
-pub fn beyond(
-    inner: bool,
-    prev: Point,
-    next: Point,
-    normal: Point,
-    position: Point,
-    h: f32,
-    limit: f32,
-    line_join: LineJoin,
-) -> SidePoints
-    ensures { λ r. ⌜ r ≡ beyondOf inner prev next normal position h limit «line_join» ⌝ }
+fn points_of(k: Kind, prev: Point, next: Point, normal: Point, e: Turn) -> SidePoints
+    ensures { λ r. ⌜ r ≡ pointsOf k prev next normal e ⌝ }
 {
-    if both(is_clip(line_join), no(inner)) {
-        return clipped_pair(prev, next, normal, position, h, limit);
+    match k {
+        Kind::Inner => pair(prev, next),
+        Kind::Single => tip_point(normal, e),
+        Kind::Clipped => clipped_pair(prev, next, normal, e),
+        Kind::Beside => pair(prev, next),
     }
-    pair(prev, next)
+}
+
+fn is_inner(k: Kind) -> bool
+    ensures { λ r. ⌜ r ≡ isInner k ⌝ }
+{
+    match k {
+        Kind::Inner => true,
+        Kind::Single => false,
+        Kind::Clipped => false,
+        Kind::Beside => false,
+    }
+}
+
+// One side of a join, from its corner and the points beside the join on its edges.
+pub fn join_side(c: Corner, prev: Point, next: Point, e: Turn) -> JoinSide
+    ensures { λ r. ⌜ r ≡ joinSideOf c prev next e ⌝ }
+{
+    let d = decide(c, e);
+    let kind = d.kind;
+    JoinSide {
+        points: points_of(kind, prev, next, c.normal, e),
+        fold: d.fold,
+        inner: is_inner(kind),
+    }
 }

@@ -1,13 +1,13 @@
 // A pass over a run's points: each joint is written, or only counted, as soon as the leg behind it is known, so no point is stored.
-use course::joint::corners_at;
+use course::joint::joint_counts;
 use course::joint::joint_of;
 use course::kept::is_near;
 use course::leg::Leg;
 use course::leg::next_leg;
 use endpoint::Endpoint;
 use endpoint::EndpointId;
-use join::record::Corners;
-use join::record::corner_count;
+use join::record::Counts;
+use join::record::counts_of;
 use path::options::Stroke;
 use points::endpoint_at;
 use strip::Strip;
@@ -18,8 +18,9 @@ ghost use mathlib.Core.List.{[], _∷_};
 ghost use mathlib.Core.Path.{_≡_};
 ghost use Prim.Native.Nat.{_≤_};
 ghost use lib.ListN.{length, drop};
-ghost use Rattle.course.specs.Joint.{cornersAt, jointOf};
+ghost use Rattle.course.specs.Joint.{jointOf};
 ghost use Rattle.course.specs.Walk.{advanced, drops, visited, passed};
+ghost use Rattle.join.specs.Record.{countsOf};
 ghost use Rattle.points.specs.Points.{endpointsOf};
 ghost use Rattle.strip.specs.Strip.{Has, Space, Lays};
 ghost use Rattle.walk.specs.Walk.{Advances, Visits, Passes};
@@ -30,15 +31,27 @@ pub struct Walk {
     pub strip: Strip,
 }
 
-// The joint that the last leg ends in, worked and written where the pass writes.
-fn lay(v: &mut [f32], t: &mut [u16], o: Stroke, w: Walk, next: Leg, c: Corners, write: bool)
-    requires { ⌜ c ≡ cornersAt o (w .leg) next ⌝ }
-    requires { ⌜ (write ≡ true → Space (w .strip) (jointOf o (w .leg) next ∷ []) (now v) (now t)) ⌝ }
-    ensures { λ _. ⌜ (write ≡ true → Lays (jointOf o (w .leg) next ∷ []) (w .strip) (now (v .entry)) (now (v .exit)) (now (t .entry)) (now (t .exit))) ⌝ }
+// The joint where a leg meets the next, written where the pass writes and only counted where it counts. The result is how many points
+// its sides have.
+fn lay(
+    v: &mut [f32],
+    t: &mut [u16],
+    o: Stroke,
+    leg: Leg,
+    strip: Strip,
+    next: Leg,
+    write: bool,
+) -> Counts
+    requires { ⌜ (write ≡ true → Space strip (jointOf o leg next ∷ []) (now v) (now t)) ⌝ }
+    ensures { λ r. ⌜ r ≡ countsOf (jointOf o leg next) ⌝ }
+    ensures { λ _. ⌜ (write ≡ true → Lays (jointOf o leg next ∷ []) strip (now (v .entry)) (now (v .exit)) (now (t .entry)) (now (t .exit))) ⌝ }
 {
     if write {
-        put_joint(v, t, w.strip, joint_of(o, w.leg, next, c));
+        let j = joint_of(o, leg, next);
+        put_joint(v, t, strip, j);
+        return counts_of(j);
     }
+    joint_counts(o, leg, next)
 }
 
 // The next point, which is kept.
@@ -49,11 +62,10 @@ fn advance(v: &mut [f32], t: &mut [u16], o: Stroke, w: Walk, p: Endpoint, write:
     let leg = w.leg;
     let strip = w.strip;
     let next = next_leg(o.half_width, leg, p);
-    let c = corners_at(o, leg, next);
-    lay(v, t, o, w, next, c, write);
+    let c = lay(v, t, o, leg, strip, next, write);
     Walk {
         leg: next,
-        strip: step(strip, corner_count(c.positive), corner_count(c.negative)),
+        strip: step(strip, c.positive, c.negative),
     }
 }
 

@@ -12,7 +12,7 @@ compute-join-side-positions-requires c κs = search needs
 
 returns : tie.Need-returns
 unfolding jointOf
-returns c = rw (c .compute-join-side-positions .ensures, c .before .unworked .ensures, c .before .before .pre)
+returns c = rw (c .compute-join-side-positions .ensures, c .before .unworked .ensures)
 
 pub joint-of-spec : {M : Type 1} → statement M
 joint-of-spec = tie.close (tie.spec unworked-requires compute-join-side-positions-requires returns)

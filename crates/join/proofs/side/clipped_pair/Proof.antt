@@ -24,7 +24,7 @@ pair-requires c κs = search needs
 
 returns : tie.Need-returns
 unfolding clippedPairOf
-returns c = rw (c .pair .ensures, c .before .plus2 .ensures, c .before .before .plus .ensures, c .before .before .before .get-clip-intersections .ensures, c .before .before .before .before .minus2 .ensures, c .before .before .before .before .before .minus .ensures)
+returns c = rw (c .pair .ensures, c .before .plus2 .ensures, c .before .before .plus .ensures, c .before .before .before .get-clip-intersections .ensures, c .before .before .before .before .before .minus2 .ensures, c .before .before .before .before .before .before .minus .ensures)
 
 pub clipped-pair-spec : {M : Type 1} → statement M
 clipped-pair-spec =

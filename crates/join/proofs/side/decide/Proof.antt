@@ -19,15 +19,12 @@ no-requires c κs = search needs
 both-requires : tie.Need-both-requires
 both-requires c κs = search needs
 
-is-single-requires : tie.Need-is-single-requires
-is-single-requires c κs = search needs
-
-both-requires-2 : tie.Need-both-requires-2
-both-requires-2 c κs = search needs
+kind-of-requires : tie.Need-kind-of-requires
+kind-of-requires c κs = search needs
 
 returns : tie.Need-returns
 unfolding decidedOf
-returns c = rw (c .both2 .ensures, c .before .is-single .ensures, c .before .before .both .ensures, c .before .before .before .no .ensures, c .before .before .before .before .folds .ensures, c .before .before .before .before .before .overshoots .ensures, c .before .before .before .before .before .before .is-inward .ensures)
+returns c = rw (c .kind-of .ensures, c .before .both .ensures, c .before .before .no .ensures, c .before .before .before .folds .ensures, c .before .before .before .before .overshoots .ensures, c .before .before .before .before .before .is-inward .ensures)
 
 pub decide-spec : {M : Type 1} → statement M
 decide-spec =
@@ -38,6 +35,5 @@ decide-spec =
     folds-requires
     no-requires
     both-requires
-    is-single-requires
-    both-requires-2
+    kind-of-requires
     returns)

@@ -16,14 +16,14 @@ negated-requires c κs = search needs
 dot-requires-2 : tie.Need-dot-requires-2
 dot-requires-2 c κs = search needs
 
-both-requires : tie.Need-both-requires
-both-requires c κs = search needs
+min-requires : tie.Need-min-requires
+min-requires c κs = search needs
 
 returns : tie.Need-returns
 unfolding pastOf
-returns c = rw (c .both .ensures, c .before .before .dot2 .ensures, c .before .before .before .negated .ensures, c .before .before .before .before .before .dot .ensures, c .before .before .before .before .before .before .times .ensures)
+returns c = rw (c .min .ensures, c .before .before .dot2 .ensures, c .before .before .before .negated .ensures, c .before .before .before .before .before .dot .ensures, c .before .before .before .before .before .before .times .ensures)
 
 pub is-past-spec : {M : Type 1} → statement M
 is-past-spec =
     tie.close
-    (tie.spec times-requires dot-requires negated-requires dot-requires-2 both-requires returns)
+    (tie.spec times-requires dot-requires negated-requires dot-requires-2 min-requires returns)
