@@ -18,9 +18,8 @@ use Rattle.plane.specs.Vector.{point, plusOf, minusOf, timesOf, overOf, negated
 use Rattle.endpoint.specs.Endpoint.{singleOf, pairOf}
 use Rattle.join.specs.Clip.{sideLineOf, unmovedOf, movedOf, clippedOf}
 use Rattle.join.specs.Edge.{edgeSideOf, edgeOf}
-use Rattle.join.specs.Record.{turnOf, sideNormalOf, cornersOf, pointsOf, innerJoinOf, sidePositionsOf, joinOf}
-use Rattle.join.specs.Side.{inwardOf, pastOf, overshootsOf, foldedOf, foldsOf, exceededOf, tipOf, decidedOf, tipPointOf, clippedPairOf, beyondOf}
-use Rattle.join.specs.Side.{singleOf as isSingle}
+use Rattle.join.specs.Record.{turnOf, innerJoinOf, sidePositionsOf}
+use Rattle.join.specs.Side.{cornerOf, inwardOf, minOf, pastOf, overshootsOf, foldedOf, foldsOf, exceededOf, tipOf, kindOf, decidedOf, tipPointOf, clippedPairOf, joinSideOf}
 use Rattle.vertices.specs.Base.{baseVertexOf, sideVerticesOf}
 use Rattle.vertices.specs.Cap.{capVertexOf, capPairOf, capVerticesOf}
 use Rattle.vertices.specs.Vertex.{vertexOf, triangleOf}
@@ -30,7 +29,7 @@ use Rattle.path.specs.Path.{malformed, checkedOf}
 use Rattle.path.specs.Runs.{runsFrom}
 use Rattle.path.specs.Verbs.{begin, line, endOpen, endClosed, names, placed, firstMisplaced, endsInside, named, pointCount}
 use Rattle.points.specs.Points.{endpointsOf}
-use Rattle.course.specs.Joint.{dataOf, unworkedOf, cornersAt, jointOf, capOf, startCapOf, endCapOf, jointsFrom, jointsOf}
+use Rattle.course.specs.Joint.{dataOf, unworkedOf, jointOf, capOf, startCapOf, endCapOf, jointsFrom, jointsOf}
 use Rattle.course.specs.Kept.{nearOf, keptBehind, allNear, trimmed, keptPoints}
 use Rattle.course.specs.Leg.{legOf, nextLegOf, legsFrom, legsOf, shortOf, firstShort}
 use Rattle.strip.specs.Joint.{vertexCount, jointVerticesOf, verticesOf}
@@ -148,7 +147,7 @@ cases =
     ∷ mesh (pen 0 0) (begin ∷ line ∷ endClosed ∷ []) (0 ∷ 0 ∷ 0x42c80000 ∷ 0 ∷ []) 4 4 0 0 4 4 ∷ []
 
 pub worked : every cases ≡ true
-unfolding every says cases reads after gotOf lastThree lastReplaced computeNormalOf inDomain normalOf floorRoot partsRoot bitsRoot rootOf plusOf minusOf timesOf overOf negatedOf turnedOf dotOf crossOf squareLengthOf lengthOf normalizeOf singleOf pairOf sideLineOf unmovedOf movedOf clippedOf edgeSideOf edgeOf inwardOf pastOf overshootsOf foldedOf foldsOf exceededOf tipOf isSingle decidedOf tipPointOf clippedPairOf beyondOf turnOf sideNormalOf cornersOf pointsOf innerJoinOf sidePositionsOf joinOf baseVertexOf sideVerticesOf capVertexOf capPairOf capVerticesOf vertexOf triangleOf coordinateIn firstOutside within lineJoinOf inRange clipOf preparedOf strokeOf malformed checkedOf runsFrom names placed firstMisplaced endsInside named pointCount endpointsOf dataOf unworkedOf cornersAt jointOf capOf startCapOf endCapOf jointsFrom jointsOf nearOf keptBehind allNear trimmed keptPoints legOf nextLegOf legsFrom legsOf shortOf firstShort vertexCount jointVerticesOf verticesOf sections flatT different triOf between stripOf through drawsCap shapeOf shapeCount shapeVertices shapeTriangles meshVertices meshCount meshTriangles meshEdges judgedOf acceptedOf strokedOf outcomeOf leadingZeros add sub mul div neg lt eq le ofBits toBits over
+unfolding every says cases reads after gotOf lastThree lastReplaced computeNormalOf inDomain normalOf floorRoot partsRoot bitsRoot rootOf plusOf minusOf timesOf overOf negatedOf turnedOf dotOf crossOf squareLengthOf lengthOf normalizeOf singleOf pairOf sideLineOf unmovedOf movedOf clippedOf edgeSideOf edgeOf cornerOf inwardOf minOf pastOf overshootsOf foldedOf foldsOf exceededOf tipOf kindOf decidedOf tipPointOf clippedPairOf joinSideOf turnOf innerJoinOf sidePositionsOf baseVertexOf sideVerticesOf capVertexOf capPairOf capVerticesOf vertexOf triangleOf coordinateIn firstOutside within lineJoinOf inRange clipOf preparedOf strokeOf malformed checkedOf runsFrom names placed firstMisplaced endsInside named pointCount endpointsOf dataOf unworkedOf jointOf capOf startCapOf endCapOf jointsFrom jointsOf nearOf keptBehind allNear trimmed keptPoints legOf nextLegOf legsFrom legsOf shortOf firstShort vertexCount jointVerticesOf verticesOf sections flatT different triOf between stripOf through drawsCap shapeOf shapeCount shapeVertices shapeTriangles meshVertices meshCount meshTriangles meshEdges judgedOf acceptedOf strokedOf outcomeOf leadingZeros add sub mul div neg lt eq le ofBits toBits over
 worked = refl
 
 -- the program's example, `M0 1L2 1`: its four vertices, with their normals and advancements, and its triangles
@@ -159,10 +158,10 @@ pub written : map (toBits binary32) (line-example .vertices) ≡ 0 ∷ 0x4000000
     ∷ 0 ∷ 0 ∷ 0 ∷ 0xbf800000 ∷ 0
     ∷ 0x40000000 ∷ 0x40000000 ∷ 0 ∷ 0x3f800000 ∷ 0x40000000
     ∷ 0x40000000 ∷ 0 ∷ 0 ∷ 0xbf800000 ∷ 0x40000000 ∷ []
-unfolding line-example normalOf floorRoot partsRoot bitsRoot rootOf plusOf minusOf timesOf overOf negatedOf turnedOf dotOf crossOf squareLengthOf lengthOf normalizeOf singleOf pairOf sideLineOf unmovedOf movedOf clippedOf edgeSideOf edgeOf inwardOf pastOf overshootsOf foldedOf foldsOf exceededOf tipOf isSingle decidedOf tipPointOf clippedPairOf beyondOf turnOf sideNormalOf cornersOf pointsOf innerJoinOf sidePositionsOf joinOf baseVertexOf sideVerticesOf capVertexOf capPairOf capVerticesOf vertexOf triangleOf coordinateIn firstOutside within lineJoinOf inRange clipOf preparedOf strokeOf malformed checkedOf runsFrom names placed firstMisplaced endsInside named pointCount endpointsOf dataOf unworkedOf cornersAt jointOf capOf startCapOf endCapOf jointsFrom jointsOf nearOf keptBehind allNear trimmed keptPoints legOf nextLegOf legsFrom legsOf shortOf firstShort vertexCount jointVerticesOf verticesOf sections flatT different triOf between stripOf through drawsCap shapeOf shapeCount shapeVertices shapeTriangles meshVertices meshCount meshTriangles meshEdges judgedOf acceptedOf strokedOf outcomeOf leadingZeros add sub mul div neg lt eq le ofBits toBits over
+unfolding line-example normalOf floorRoot partsRoot bitsRoot rootOf plusOf minusOf timesOf overOf negatedOf turnedOf dotOf crossOf squareLengthOf lengthOf normalizeOf singleOf pairOf sideLineOf unmovedOf movedOf clippedOf edgeSideOf edgeOf cornerOf inwardOf minOf pastOf overshootsOf foldedOf foldsOf exceededOf tipOf kindOf decidedOf tipPointOf clippedPairOf joinSideOf turnOf innerJoinOf sidePositionsOf baseVertexOf sideVerticesOf capVertexOf capPairOf capVerticesOf vertexOf triangleOf coordinateIn firstOutside within lineJoinOf inRange clipOf preparedOf strokeOf malformed checkedOf runsFrom names placed firstMisplaced endsInside named pointCount endpointsOf dataOf unworkedOf jointOf capOf startCapOf endCapOf jointsFrom jointsOf nearOf keptBehind allNear trimmed keptPoints legOf nextLegOf legsFrom legsOf shortOf firstShort vertexCount jointVerticesOf verticesOf sections flatT different triOf between stripOf through drawsCap shapeOf shapeCount shapeVertices shapeTriangles meshVertices meshCount meshTriangles meshEdges judgedOf acceptedOf strokedOf outcomeOf leadingZeros add sub mul div neg lt eq le ofBits toBits over
 written = refl
 
 -- the seventh number was not asked for, and is left as it was
 pub faced : line-example .triangles ≡ 1 ∷ 0 ∷ 2 ∷ 1 ∷ 2 ∷ 3 ∷ 9 ∷ []
-unfolding line-example normalOf floorRoot partsRoot bitsRoot rootOf plusOf minusOf timesOf overOf negatedOf turnedOf dotOf crossOf squareLengthOf lengthOf normalizeOf singleOf pairOf sideLineOf unmovedOf movedOf clippedOf edgeSideOf edgeOf inwardOf pastOf overshootsOf foldedOf foldsOf exceededOf tipOf isSingle decidedOf tipPointOf clippedPairOf beyondOf turnOf sideNormalOf cornersOf pointsOf innerJoinOf sidePositionsOf joinOf baseVertexOf sideVerticesOf capVertexOf capPairOf capVerticesOf vertexOf triangleOf coordinateIn firstOutside within lineJoinOf inRange clipOf preparedOf strokeOf malformed checkedOf runsFrom names placed firstMisplaced endsInside named pointCount endpointsOf dataOf unworkedOf cornersAt jointOf capOf startCapOf endCapOf jointsFrom jointsOf nearOf keptBehind allNear trimmed keptPoints legOf nextLegOf legsFrom legsOf shortOf firstShort vertexCount jointVerticesOf verticesOf sections flatT different triOf between stripOf through drawsCap shapeOf shapeCount shapeVertices shapeTriangles meshVertices meshCount meshTriangles meshEdges judgedOf acceptedOf strokedOf outcomeOf leadingZeros add sub mul div neg lt eq le ofBits toBits over
+unfolding line-example normalOf floorRoot partsRoot bitsRoot rootOf plusOf minusOf timesOf overOf negatedOf turnedOf dotOf crossOf squareLengthOf lengthOf normalizeOf singleOf pairOf sideLineOf unmovedOf movedOf clippedOf edgeSideOf edgeOf cornerOf inwardOf minOf pastOf overshootsOf foldedOf foldsOf exceededOf tipOf kindOf decidedOf tipPointOf clippedPairOf joinSideOf turnOf innerJoinOf sidePositionsOf baseVertexOf sideVerticesOf capVertexOf capPairOf capVerticesOf vertexOf triangleOf coordinateIn firstOutside within lineJoinOf inRange clipOf preparedOf strokeOf malformed checkedOf runsFrom names placed firstMisplaced endsInside named pointCount endpointsOf dataOf unworkedOf jointOf capOf startCapOf endCapOf jointsFrom jointsOf nearOf keptBehind allNear trimmed keptPoints legOf nextLegOf legsFrom legsOf shortOf firstShort vertexCount jointVerticesOf verticesOf sections flatT different triOf between stripOf through drawsCap shapeOf shapeCount shapeVertices shapeTriangles meshVertices meshCount meshTriangles meshEdges judgedOf acceptedOf strokedOf outcomeOf leadingZeros add sub mul div neg lt eq le ofBits toBits over
 faced = refl

@@ -19,7 +19,7 @@ use Rattle.path.specs.Path.{malformed, checkedOf}
 use Rattle.path.specs.Runs.{runsFrom}
 use Rattle.path.specs.Verbs.{names, placed, firstMisplaced, endsInside, named, pointCount}
 use Rattle.points.specs.Points.{endpointsOf}
-use Rattle.course.specs.Joint.{dataOf, unworkedOf, cornersAt, jointOf, capOf, startCapOf, endCapOf, jointsFrom, jointsOf}
+use Rattle.course.specs.Joint.{dataOf, unworkedOf, jointOf, capOf, startCapOf, endCapOf, jointsFrom, jointsOf}
 use Rattle.course.specs.Kept.{nearOf, keptBehind, allNear, trimmed, keptPoints}
 use Rattle.course.specs.Leg.{legOf, nextLegOf, legsFrom, legsOf, shortOf, firstShort}
 use Rattle.strip.specs.Joint.{vertexCount, jointVerticesOf, verticesOf}
@@ -55,7 +55,7 @@ unfolding coordinateIn firstOutside within lineJoinOf inRange clipOf preparedOf 
 paths = tt
 
 runs : Unit {0}
-unfolding dataOf unworkedOf cornersAt jointOf capOf startCapOf endCapOf jointsFrom jointsOf nearOf keptBehind allNear trimmed keptPoints legOf nextLegOf legsFrom legsOf shortOf firstShort
+unfolding dataOf unworkedOf jointOf capOf startCapOf endCapOf jointsFrom jointsOf nearOf keptBehind allNear trimmed keptPoints legOf nextLegOf legsFrom legsOf shortOf firstShort
 runs = tt
 
 meshes : Unit {0}
