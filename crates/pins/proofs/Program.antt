@@ -3,7 +3,7 @@ use Prim.Native.Nat.{ℕ}
 use mathlib.Core.Path.{refl}
 use mathlib.Core.List.{List}
 use lib.Count.{leadingZeros}
-use lib.Ieee.{add, sub, mul, div, neg, lt, eq, le, ofBits, toBits, ofInt}
+use lib.Ieee.{add, sub, mul, div, neg, lt, eq, ne, le, ofBits, toBits, ofInt}
 use Rattle.lists.specs.Over.{over}
 use Rattle.root.specs.Compute.{floorRoot, partsRoot, bitsRoot, rootOf}
 use Rattle.plane.specs.Normal.{normalOf}
@@ -39,7 +39,7 @@ use Rattle.page.specs.Page.{bytes, verbRoom, coordRoom, linesTo, meshPage, mesh
 
 -- what the checker opens to compute it
 arithmetic : Unit {0}
-unfolding leadingZeros add sub mul div neg lt eq le ofBits toBits ofInt floorRoot partsRoot bitsRoot rootOf
+unfolding leadingZeros add sub mul div neg lt eq ne le ofBits toBits ofInt floorRoot partsRoot bitsRoot rootOf
 arithmetic = tt
 
 vectors : Unit {0}
