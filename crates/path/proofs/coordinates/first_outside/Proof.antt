@@ -1,62 +1,19 @@
 -- `path::coordinates::first_outside` meets its contract. Assumes nothing.
 use borrow.Author.Needs.{needs}
-use Prim.Native.Nat.{_-_}
-use mathlib.Core.Path.{sym, _∙_}
-use lib.ListN.{length}
-use borrow.Author.Tests.{not-true, not-false}
-use Rattle.path.proofs.Bounding.{Within, within-none, within-one, within-stop, within-all}
 use Rattle.path.proofs.coordinates.first_outside.Statement.{statement}
 use Rattle.path.proofs.coordinates.first_outside.Tie as tie
 
-abbrev Inv-loop : tie.InvT-loop
-Inv-loop coords i₀ i = Within coords i
+are-in-limits-requires : tie.Need-are-in-limits-requires
+are-in-limits-requires c κs = search needs
 
-abbrev μ-loop : tie.MeasureT-loop
-μ-loop coords i₀ i = length coords - i
+returns : tie.Need-returns
+returns c = c .before .are-in-limits .ensures (c .if1 .taken)
 
-loop-holds : tie.Need-loop-holds Inv-loop μ-loop
-loop-holds c = within-none _
+search-requires : tie.Need-search-requires
+search-requires c κs = search needs
 
-mul-x : tie.Need-mul-x Inv-loop μ-loop
-mul-x c = search needs
-
-shared-slice-read-x : tie.Need-shared-slice-read-x Inv-loop μ-loop
-shared-slice-read-x c = search needs
-
-is-in-limits-requires : tie.Need-is-in-limits-requires Inv-loop μ-loop
-is-in-limits-requires c κs = search needs
-
-returns : tie.Need-returns Inv-loop μ-loop
-returns c =
-    let turn = c .before .before .before in
-    within-stop _ _ (turn .before .loop .inv) (turn .loop-test .taken) (sym (c .before .is-in-limits .ensures) ∙ not-true _ (c .if1 .taken))
-
-add-i : tie.Need-add-i Inv-loop μ-loop
-add-i c = search needs
-
-loop-less : tie.Need-loop-less Inv-loop μ-loop
-loop-less c = search needs
-
-loop-again : tie.Need-loop-again Inv-loop μ-loop
-loop-again c =
-    let turn = c .before .before .before in
-    within-one _ _ (turn .before .loop .inv) (turn .loop-test .taken) (sym (c .before .is-in-limits .ensures) ∙ not-false _ (c .if1 .left))
-
-returns-2 : tie.Need-returns-2 Inv-loop μ-loop
-returns-2 c = within-all _ _ (c .before .loop .inv) (c .loop-test .left)
+returns-2 : tie.Need-returns-2
+returns-2 c = c .search .ensures
 
 pub first-outside-spec : {M : Type 1} → statement M
-first-outside-spec =
-    tie.close
-    (tie.spec
-    Inv-loop
-    μ-loop
-    loop-holds
-    mul-x
-    shared-slice-read-x
-    is-in-limits-requires
-    returns
-    add-i
-    loop-less
-    loop-again
-    returns-2)
+first-outside-spec = tie.close (tie.spec are-in-limits-requires returns search-requires returns-2)
