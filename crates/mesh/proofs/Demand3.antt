@@ -31,10 +31,10 @@ use Rattle.mesh.specs.Demand3.{EarnsNone, AllStand, Written, Rooms, Dema
 use Rattle.mesh.specs.Mesh.{Outcome, refused, acceptedOf, strokedOf, outcomeOf}
 
 -- ---- run by run
-pub all-stand : (o : Stroke) (k : ℕ) (rs : List (Run Endpoint)) → AllStand o k rs
-all-stand o k [] = tt
-all-stand o k (r ∷ rs) =
-    (record { counts = run-counts o (r .closed) k (r .points); covers = run-covers o (r .closed) k (r .points) }, all-stand o (k + shapeCount (drawnOf o r)) rs)
+pub all-stand : (o : Stroke) (base : ℕ) (rs : List (Run Endpoint)) → AllStand o base rs
+all-stand o base [] = tt
+all-stand o base (r ∷ rs) =
+    (record { counts = run-counts o (r .closed) base (r .points); covers = run-covers o (r .closed) base (r .points) }, all-stand o (base + shapeCount (drawnOf o r)) rs)
 
 -- ---- rooms, of an accepted path
 module _ (o : Stroke) (rs : List (Run Endpoint)) (v : List Float) (t : List ℕ) (e : firstShort (meshEdges o rs) ≡ length (meshEdges o rs)) where

@@ -31,17 +31,17 @@ pub record EarnsNone (verbs : List ℕ) (coords : List Float) (options : Options
 
 -- "Counts follow from the join rules alone": by the points kept, their pair sides and, where one is kept, whether it draws the empty cap (a run has a line verb
 -- where it has more than one point); "each triangle names three different vertices of its run, every vertex is named, each triangle but a run's first shares
--- exactly two vertices with the one before." A run whose vertices are numbered from k.
-pub record RunStands (o : Stroke) (k : ℕ) (r : Run Endpoint) : Type 0 where
+-- exactly two vertices with the one before." A run whose vertices are numbered from base.
+pub record RunStands (o : Stroke) (base : ℕ) (r : Run Endpoint) : Type 0 where
   pub counts : let kept = keptPoints (r .closed) (r .points) in
       Counts (r .closed) (drawsCap o (r .closed) (ltb 1 (length (r .points)))) (length kept) (pairSides (jointsOf (r .closed) o kept))
-      (shapeCount (drawnOf o r)) (length (shapeTriangles (r .closed) k (drawnOf o r)))
-  pub covers : Covers k (k + shapeCount (drawnOf o r)) (shapeTriangles (r .closed) k (drawnOf o r))
+      (shapeCount (drawnOf o r)) (length (shapeTriangles (r .closed) base (drawnOf o r)))
+  pub covers : Covers base (base + shapeCount (drawnOf o r)) (shapeTriangles (r .closed) base (drawnOf o r))
 
 -- run by run, vertex numbers going on over all runs
 abbrev pub AllStand : Stroke → ℕ → List (Run Endpoint) → Type 0
-AllStand o k [] = Unit
-AllStand o k (r ∷ rs) = RunStands o k r × AllStand o (k + shapeCount (drawnOf o r)) rs
+AllStand o base [] = Unit
+AllStand o base (r ∷ rs) = RunStands o base r × AllStand o (base + shapeCount (drawnOf o r)) rs
 
 -- what a call leaves where there is room: the answer 0 with both counts, "exactly so many are written", and nothing behind them
 pub record Written (o : Stroke) (rs : List (Run Endpoint)) (v : List Float) (t : List ℕ) (out : Outcome) : Type 0 where

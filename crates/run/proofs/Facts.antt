@@ -25,88 +25,88 @@ use Rattle.run.specs.Facts.{Numbers, Alone, Counts, Covers}
 use Rattle.run.specs.Run.{nothing, emptyCap, drawsCap, shapeOfKept, shapeOf, shapeCount, shapeTriangles}
 
 -- ---- a strip of two joints or more
-strip-numbers : (closed : Bool) (k : ℕ) (js : List EndpointData) → 2 ≤ length js → Numbers closed (length js) (pairSides js) (vertexCount js) (length (trianglesOf closed k js))
-strip-numbers closed k [] h = absurd (omega arith)
-strip-numbers closed k (j ∷ []) h = absurd (omega arith)
-strip-numbers true k (j ∷ i ∷ js) h = record { vertices = vertices-are (j ∷ i ∷ js); triangles = closed-count k j i js ∙ vertices-are (j ∷ i ∷ js) }
-strip-numbers false k (j ∷ i ∷ js) h = record { vertices = vertices-are (j ∷ i ∷ js); triangles = omega (arith, open-count k j (i ∷ js), vertices-are (j ∷ i ∷ js)) }
+strip-numbers : (closed : Bool) (base : ℕ) (js : List EndpointData) → 2 ≤ length js → Numbers closed (length js) (pairSides js) (vertexCount js) (length (trianglesOf closed base js))
+strip-numbers closed base [] h = absurd (omega arith)
+strip-numbers closed base (j ∷ []) h = absurd (omega arith)
+strip-numbers true base (j ∷ i ∷ js) h = record { vertices = vertices-are (j ∷ i ∷ js); triangles = closed-count base j i js ∙ vertices-are (j ∷ i ∷ js) }
+strip-numbers false base (j ∷ i ∷ js) h = record { vertices = vertices-are (j ∷ i ∷ js); triangles = omega (arith, open-count base j (i ∷ js), vertices-are (j ∷ i ∷ js)) }
 
-strip-covers : (closed : Bool) (k : ℕ) (js : List EndpointData) → 2 ≤ length js → Covers k (k + vertexCount js) (trianglesOf closed k js)
-strip-covers closed k [] h = absurd (omega arith)
-strip-covers closed k (j ∷ []) h = absurd (omega arith)
-strip-covers true k (j ∷ i ∷ js) h = record { own = closed-own k j i js; named = λ x m. closed-named k j i js x (m .0) (m .1); linked = closed-linked k j i js }
-strip-covers false k (j ∷ i ∷ js) h = record { own = open-own k j (i ∷ js); named = λ x m. open-named k j i js x (m .0) (m .1); linked = open-linked k j (i ∷ js) }
+strip-covers : (closed : Bool) (base : ℕ) (js : List EndpointData) → 2 ≤ length js → Covers base (base + vertexCount js) (trianglesOf closed base js)
+strip-covers closed base [] h = absurd (omega arith)
+strip-covers closed base (j ∷ []) h = absurd (omega arith)
+strip-covers true base (j ∷ i ∷ js) h = record { own = closed-own base j i js; named = λ x m. closed-named base j i js x (m .0) (m .1); linked = closed-linked base j i js }
+strip-covers false base (j ∷ i ∷ js) h = record { own = open-own base j (i ∷ js); named = λ x m. open-named base j i js x (m .0) (m .1); linked = open-linked base j (i ∷ js) }
 
 -- ---- an empty cap
 abbrev one : ℕ → Tri
-one k = record { a = k; b = k + 1; c = k + 2 }
+one base = record { a = base; b = base + 1; c = base + 2 }
 
 abbrev two : ℕ → Tri
-two k = record { a = k; b = k + 2; c = k + 3 }
+two base = record { a = base; b = base + 2; c = base + 3 }
 
-cap-own : (k : ℕ) → AllOwn k (k + 4) (one k ∷ two k ∷ [])
-cap-own k = (
+cap-own : (base : ℕ) → AllOwn base (base + 4) (one base ∷ two base ∷ [])
+cap-own base = (
   record { ab = λ e. omega arith; bc = λ e. omega arith; ac = λ e. omega arith; inA = (omega arith, omega arith); inB = (omega arith, omega arith); inC = (omega arith, omega arith) },
   (record { ab = λ e. omega arith; bc = λ e. omega arith; ac = λ e. omega arith; inA = (omega arith, omega arith); inB = (omega arith, omega arith); inC = (omega arith, omega arith) }, tt),
 )
 
-cap-names : (k x : ℕ) → In k (k + 4) x → Names x (one k ∷ two k ∷ [])
-cap-names k x m = go (decLe x k) (decLe x (k + 1)) (decLe x (k + 2))
+cap-names : (base x : ℕ) → In base (base + 4) x → Names x (one base ∷ two base ∷ [])
+cap-names base x m = go (decLe x base) (decLe x (base + 1)) (decLe x (base + 2))
   where
-    go : Dec (x ≤ k) → Dec (x ≤ k + 1) → Dec (x ≤ k + 2) → Names x (one k ∷ two k ∷ [])
-    go (yes h) b c = let e : x ≡ k = omega (arith, m) in here {t = one k} (rw e (in-a (k + 1) (k + 2) k))
-    go (no f) (yes h) c = let e : x ≡ k + 1 = omega (arith, m) in here {t = one k} (rw e (in-b k (k + 2) (k + 1)))
-    go (no f) (no g) (yes h) = let e : x ≡ k + 2 = omega (arith, m) in here {t = one k} (rw e (in-c k (k + 1) (k + 2)))
-    go (no f) (no g) (no h) = let e : x ≡ k + 3 = omega (arith, m) in there (here {t = two k} (rw e (in-c k (k + 2) (k + 3))))
+    go : Dec (x ≤ base) → Dec (x ≤ base + 1) → Dec (x ≤ base + 2) → Names x (one base ∷ two base ∷ [])
+    go (yes h) b c = let e : x ≡ base = omega (arith, m) in here {t = one base} (rw e (in-a (base + 1) (base + 2) base))
+    go (no f) (yes h) c = let e : x ≡ base + 1 = omega (arith, m) in here {t = one base} (rw e (in-b base (base + 2) (base + 1)))
+    go (no f) (no g) (yes h) = let e : x ≡ base + 2 = omega (arith, m) in here {t = one base} (rw e (in-c base (base + 1) (base + 2)))
+    go (no f) (no g) (no h) = let e : x ≡ base + 3 = omega (arith, m) in there (here {t = two base} (rw e (in-c base (base + 2) (base + 3))))
 
-cap-linked : (k : ℕ) → Linked (one k ∷ two k ∷ [])
+cap-linked : (base : ℕ) → Linked (one base ∷ two base ∷ [])
 unfolding shared
-cap-linked k = (rw (in-a (k + 1) (k + 2) k, in-c k (k + 1) (k + 2), in-none k (k + 1) (k + 2) (k + 3) (λ e. omega arith) (λ e. omega arith) (λ e. omega arith)), tt)
+cap-linked base = (rw (in-a (base + 1) (base + 2) base, in-c base (base + 1) (base + 2), in-none base (base + 1) (base + 2) (base + 3) (λ e. omega arith) (λ e. omega arith) (λ e. omega arith)), tt)
 
 -- ---- a run, by its kept points
-kept-covers : (o : Stroke) (closed lines : Bool) (k : ℕ) (ks : List Endpoint) → Covers k (k + shapeCount (shapeOfKept o closed lines ks)) (shapeTriangles closed k (shapeOfKept o closed lines ks))
+kept-covers : (o : Stroke) (closed lines : Bool) (base : ℕ) (ks : List Endpoint) → Covers base (base + shapeCount (shapeOfKept o closed lines ks)) (shapeTriangles closed base (shapeOfKept o closed lines ks))
 unfolding shapeCount shapeTriangles
-kept-covers o closed lines k [] = record { own = tt; named = λ x m. absurd (omega arith); linked = tt }
-kept-covers o closed lines k (p ∷ []) = go (drawsCap o closed lines)
+kept-covers o closed lines base [] = record { own = tt; named = λ x m. absurd (omega arith); linked = tt }
+kept-covers o closed lines base (p ∷ []) = go (drawsCap o closed lines)
   where
-    go : (b : Bool) → Covers k (k + shapeCount (cond b (emptyCap p) nothing)) (shapeTriangles closed k (cond b (emptyCap p) nothing))
-    go true = record { own = cap-own k; named = cap-names k; linked = cap-linked k }
+    go : (b : Bool) → Covers base (base + shapeCount (cond b (emptyCap p) nothing)) (shapeTriangles closed base (cond b (emptyCap p) nothing))
+    go true = record { own = cap-own base; named = cap-names base; linked = cap-linked base }
     go false = record { own = tt; named = λ x m. absurd (omega arith); linked = tt }
-kept-covers o closed lines k (p ∷ q ∷ ks) =
+kept-covers o closed lines base (p ∷ q ∷ ks) =
     let l = joints-length closed o p q ks in
-    strip-covers closed k (jointsOf closed o (p ∷ q ∷ ks)) (omega arith)
+    strip-covers closed base (jointsOf closed o (p ∷ q ∷ ks)) (omega arith)
 
-module _ (o : Stroke) (closed : Bool) (k : ℕ) (ps : List Endpoint) where
-  pub run-covers : Covers k (k + shapeCount (shapeOf o closed ps)) (shapeTriangles closed k (shapeOf o closed ps))
+module _ (o : Stroke) (closed : Bool) (base : ℕ) (ps : List Endpoint) where
+  pub run-covers : Covers base (base + shapeCount (shapeOf o closed ps)) (shapeTriangles closed base (shapeOf o closed ps))
   unfolding shapeOf
-  run-covers = kept-covers o closed (ltb 1 (length ps)) k (keptPoints closed ps)
+  run-covers = kept-covers o closed (ltb 1 (length ps)) base (keptPoints closed ps)
 
 -- n points kept, d pair sides
-kept-numbers : (o : Stroke) (closed lines : Bool) (k : ℕ) (ks : List Endpoint) → 2 ≤ length ks
-    → Numbers closed (length ks) (pairSides (jointsOf closed o ks)) (shapeCount (shapeOfKept o closed lines ks)) (length (shapeTriangles closed k (shapeOfKept o closed lines ks)))
+kept-numbers : (o : Stroke) (closed lines : Bool) (base : ℕ) (ks : List Endpoint) → 2 ≤ length ks
+    → Numbers closed (length ks) (pairSides (jointsOf closed o ks)) (shapeCount (shapeOfKept o closed lines ks)) (length (shapeTriangles closed base (shapeOfKept o closed lines ks)))
 unfolding shapeCount shapeTriangles
-kept-numbers o closed lines k [] h = absurd (omega arith)
-kept-numbers o closed lines k (p ∷ []) h = absurd (omega arith)
-kept-numbers o closed lines k (p ∷ q ∷ ks) h =
+kept-numbers o closed lines base [] h = absurd (omega arith)
+kept-numbers o closed lines base (p ∷ []) h = absurd (omega arith)
+kept-numbers o closed lines base (p ∷ q ∷ ks) h =
     let l = joints-length closed o p q ks in
-    rw (← l) (strip-numbers closed k (jointsOf closed o (p ∷ q ∷ ks)) (omega arith))
+    rw (← l) (strip-numbers closed base (jointsOf closed o (p ∷ q ∷ ks)) (omega arith))
 
-kept-counts : (o : Stroke) (closed lines : Bool) (k : ℕ) (ks : List Endpoint)
-    → Counts closed (drawsCap o closed lines) (length ks) (pairSides (jointsOf closed o ks)) (shapeCount (shapeOfKept o closed lines ks)) (length (shapeTriangles closed k (shapeOfKept o closed lines ks)))
+kept-counts : (o : Stroke) (closed lines : Bool) (base : ℕ) (ks : List Endpoint)
+    → Counts closed (drawsCap o closed lines) (length ks) (pairSides (jointsOf closed o ks)) (shapeCount (shapeOfKept o closed lines ks)) (length (shapeTriangles closed base (shapeOfKept o closed lines ks)))
 unfolding shapeCount shapeTriangles
-kept-counts o closed lines k [] = (refl, refl)
-kept-counts o closed lines k (p ∷ []) = go (drawsCap o closed lines)
+kept-counts o closed lines base [] = (refl, refl)
+kept-counts o closed lines base (p ∷ []) = go (drawsCap o closed lines)
   where
-    go : (b : Bool) → Alone b (shapeCount (cond b (emptyCap p) nothing)) (length (shapeTriangles closed k (cond b (emptyCap p) nothing)))
+    go : (b : Bool) → Alone b (shapeCount (cond b (emptyCap p) nothing)) (length (shapeTriangles closed base (cond b (emptyCap p) nothing)))
     go true = record { vertices = refl; triangles = refl }
     go false = record { vertices = refl; triangles = refl }
-kept-counts o closed lines k (p ∷ q ∷ ks) = kept-numbers o closed lines k (p ∷ q ∷ ks) (omega arith)
+kept-counts o closed lines base (p ∷ q ∷ ks) = kept-numbers o closed lines base (p ∷ q ∷ ks) (omega arith)
 
-module _ (o : Stroke) (closed : Bool) (k : ℕ) (ps : List Endpoint) where
+module _ (o : Stroke) (closed : Bool) (base : ℕ) (ps : List Endpoint) where
   pub run-counts : let kept = keptPoints closed ps in
-      Counts closed (drawsCap o closed (ltb 1 (length ps))) (length kept) (pairSides (jointsOf closed o kept)) (shapeCount (shapeOf o closed ps)) (length (shapeTriangles closed k (shapeOf o closed ps)))
+      Counts closed (drawsCap o closed (ltb 1 (length ps))) (length kept) (pairSides (jointsOf closed o kept)) (shapeCount (shapeOf o closed ps)) (length (shapeTriangles closed base (shapeOf o closed ps)))
   unfolding shapeOf
-  run-counts = kept-counts o closed (ltb 1 (length ps)) k (keptPoints closed ps)
+  run-counts = kept-counts o closed (ltb 1 (length ps)) base (keptPoints closed ps)
 
 -- ---- bounds: at most four vertices to a point, no more triangles than vertices, wherever the numbers begin
 pairs-few : (js : List EndpointData) → pairSides js ≤ 2 * length js
@@ -122,37 +122,37 @@ numbers-few : (closed : Bool) (n d v t : ℕ) → d ≤ 2 * n → Numbers closed
 numbers-few true n d v t h e = record { vertices = omega (arith, e .vertices); triangles = omega (arith, e .vertices, e .triangles) }
 numbers-few false n d v t h e = record { vertices = omega (arith, e .vertices); triangles = omega (arith, e .vertices, e .triangles) }
 
-kept-within : (o : Stroke) (closed lines : Bool) (k : ℕ) (ks : List Endpoint) → Within4 (length ks) (shapeCount (shapeOfKept o closed lines ks)) (length (shapeTriangles closed k (shapeOfKept o closed lines ks)))
+kept-within : (o : Stroke) (closed lines : Bool) (base : ℕ) (ks : List Endpoint) → Within4 (length ks) (shapeCount (shapeOfKept o closed lines ks)) (length (shapeTriangles closed base (shapeOfKept o closed lines ks)))
 unfolding shapeCount shapeTriangles
-kept-within o closed lines k [] = record { vertices = omega arith; triangles = omega arith }
-kept-within o closed lines k (p ∷ []) = go (drawsCap o closed lines)
+kept-within o closed lines base [] = record { vertices = omega arith; triangles = omega arith }
+kept-within o closed lines base (p ∷ []) = go (drawsCap o closed lines)
   where
-    go : (b : Bool) → Within4 1 (shapeCount (cond b (emptyCap p) nothing)) (length (shapeTriangles closed k (cond b (emptyCap p) nothing)))
+    go : (b : Bool) → Within4 1 (shapeCount (cond b (emptyCap p) nothing)) (length (shapeTriangles closed base (cond b (emptyCap p) nothing)))
     go true = record { vertices = omega arith; triangles = omega arith }
     go false = record { vertices = omega arith; triangles = omega arith }
-kept-within o closed lines k (p ∷ q ∷ ks) =
+kept-within o closed lines base (p ∷ q ∷ ks) =
     let l = joints-length closed o p q ks in
     let js = jointsOf closed o (p ∷ q ∷ ks) in
-    numbers-few closed (length (p ∷ q ∷ ks)) (pairSides js) _ _ (omega (arith, pairs-few js)) (kept-numbers o closed lines k (p ∷ q ∷ ks) (omega arith))
+    numbers-few closed (length (p ∷ q ∷ ks)) (pairSides js) _ _ (omega (arith, pairs-few js)) (kept-numbers o closed lines base (p ∷ q ∷ ks) (omega arith))
 
-kept-anywhere : (o : Stroke) (closed lines : Bool) (k : ℕ) (ks : List Endpoint) → length (shapeTriangles closed k (shapeOfKept o closed lines ks)) ≡ length (shapeTriangles closed 0 (shapeOfKept o closed lines ks))
+kept-anywhere : (o : Stroke) (closed lines : Bool) (base : ℕ) (ks : List Endpoint) → length (shapeTriangles closed base (shapeOfKept o closed lines ks)) ≡ length (shapeTriangles closed 0 (shapeOfKept o closed lines ks))
 unfolding shapeTriangles
-kept-anywhere o closed lines k [] = refl
-kept-anywhere o closed lines k (p ∷ []) = go (drawsCap o closed lines)
+kept-anywhere o closed lines base [] = refl
+kept-anywhere o closed lines base (p ∷ []) = go (drawsCap o closed lines)
   where
-    go : (b : Bool) → length (shapeTriangles closed k (cond b (emptyCap p) nothing)) ≡ length (shapeTriangles closed 0 (cond b (emptyCap p) nothing))
+    go : (b : Bool) → length (shapeTriangles closed base (cond b (emptyCap p) nothing)) ≡ length (shapeTriangles closed 0 (cond b (emptyCap p) nothing))
     go true = refl
     go false = refl
-kept-anywhere o closed lines k (p ∷ q ∷ ks) =
-    kept-numbers o closed lines k (p ∷ q ∷ ks) (omega arith) .triangles ∙ sym (kept-numbers o closed lines 0 (p ∷ q ∷ ks) (omega arith) .triangles)
+kept-anywhere o closed lines base (p ∷ q ∷ ks) =
+    kept-numbers o closed lines base (p ∷ q ∷ ks) (omega arith) .triangles ∙ sym (kept-numbers o closed lines 0 (p ∷ q ∷ ks) (omega arith) .triangles)
 
-module _ (o : Stroke) (closed : Bool) (k : ℕ) (ps : List Endpoint) where
-  pub run-within : Within4 (length ps) (shapeCount (shapeOf o closed ps)) (length (shapeTriangles closed k (shapeOf o closed ps)))
+module _ (o : Stroke) (closed : Bool) (base : ℕ) (ps : List Endpoint) where
+  pub run-within : Within4 (length ps) (shapeCount (shapeOf o closed ps)) (length (shapeTriangles closed base (shapeOf o closed ps)))
   unfolding shapeOf
   run-within =
-      let w = kept-within o closed (ltb 1 (length ps)) k (keptPoints closed ps) in
+      let w = kept-within o closed (ltb 1 (length ps)) base (keptPoints closed ps) in
       record { vertices = omega (arith, w .vertices, kept-few closed ps); triangles = w .triangles }
 
-  pub run-anywhere : length (shapeTriangles closed k (shapeOf o closed ps)) ≡ length (shapeTriangles closed 0 (shapeOf o closed ps))
+  pub run-anywhere : length (shapeTriangles closed base (shapeOf o closed ps)) ≡ length (shapeTriangles closed 0 (shapeOf o closed ps))
   unfolding shapeOf
-  run-anywhere = kept-anywhere o closed (ltb 1 (length ps)) k (keptPoints closed ps)
+  run-anywhere = kept-anywhere o closed (ltb 1 (length ps)) base (keptPoints closed ps)
