@@ -85,12 +85,5 @@ fn endpoint_at(position: Point, h: f32, advancement: f32, join: LineJoin) -> End
 fn worked(prev: EndRead, e: EndpointData, next: EndRead, limit: f32) -> EndpointData {
     let before = edge_of(prev.point, e.position, e.half_width);
     let after = edge_of(e.position, next.point, e.half_width);
-    compute_join_side_positions(
-        before,
-        e,
-        after,
-        prev.advancement,
-        next.advancement,
-        limit,
-    )
+    compute_join_side_positions(before, e, after, prev.advancement, next.advancement, limit)
 }

@@ -8,8 +8,8 @@ use mathlib.Core.Option.{Option, none, some}
 use lib.Ieee.{Float, lt}
 use Rattle.plane.specs.F32.{_⊖_, _⊗_, f32, above, notBelow}
 use Rattle.plane.specs.Normal.{pick, normalOf}
-use Rattle.plane.specs.Vector.{plusOf, minusOf, timesOf, negatedOf, dotOf, crossOf, squareLengthOf, normalizeOf}
-use Rattle.endpoint.specs.Endpoint.{signOf, singleOf, pairOf}
+use Rattle.plane.specs.Vector.{plusOf, minusOf, timesOf, dotOf, crossOf, squareLengthOf, normalizeOf}
+use Rattle.endpoint.specs.Endpoint.{signOf}
 use Rattle.endpoint.specs.declared.EndpointData.{EndpointData}
 use Rattle.endpoint.specs.declared.LineJoin.{LineJoin}
 use Rattle.endpoint.specs.declared.LineJoin.the-variants.{Miter, MiterClip, Bevel}
@@ -18,7 +18,7 @@ use Rattle.endpoint.specs.declared.Side.the-variants.{Positive, Negative}
 use Rattle.join.specs.Clip.{clippedOf}
 use Rattle.join.specs.Edge.{edgeSideOf, edgeOf}
 use Rattle.join.specs.Side as crate
-use Rattle.join.specs.Side.{minOf, exceededOf, inwardOf, pastOf, overshootsOf, foldedOf, foldsOf, tipOf, kindOf, decidedOf, tipPointOf, clippedPairOf, pointsOf, isInner, cornerOf, joinSideOf}
+use Rattle.join.specs.Side.{inwardOf, pastOf, overshootsOf, foldedOf, foldsOf, tipOf, kindOf, decidedOf, tipPointOf, clippedPairOf, pointsOf, isInner, cornerOf, joinSideOf}
 use Rattle.join.specs.Record.{turnOf, sidePositionsOf, innerJoinOf}
 use Rattle.join.specs.Source.{SourcePoints, SourceData, sourcePoints, put, set, isMiter, isMiterClip, computeJoinSidePositions, unset, pointsIn, lastInner, Same}
 use Rattle.join.specs.declared.edge.Edge.{Edge}

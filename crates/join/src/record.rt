@@ -15,14 +15,7 @@ ghost use Rattle.join.specs.Record.{turnOf, innerJoinOf, sidePositionsOf
 
 // prev and next are the advancements of the endpoints before and after a join: as in the source, an edge is as long as its ends'
 // advancements differ.
-fn turn_of(
-    before: Edge,
-    join: EndpointData,
-    after: Edge,
-    prev: f32,
-    next: f32,
-    limit: f32,
-) -> Turn
+fn turn_of(before: Edge, join: EndpointData, after: Edge, prev: f32, next: f32, limit: f32) -> Turn
     ensures { λ r. ⌜ r ≡ turnOf before join after prev next limit ⌝ }
 {
     let position = join.position;
@@ -121,8 +114,14 @@ pub fn count_join(
     ensures { λ r. ⌜ r ≡ countsOf (sidePositionsOf before join after prev next limit) ⌝ }
 {
     let e = turn_of(before, join, after, prev, next, limit);
-    let p = decide(corner_of(before.positive, after.positive, Side::Positive), e);
-    let n = decide(corner_of(before.negative, after.negative, Side::Negative), e);
+    let p = decide(
+        corner_of(before.positive, after.positive, Side::Positive),
+        e,
+    );
+    let n = decide(
+        corner_of(before.negative, after.negative, Side::Negative),
+        e,
+    );
     let positive = p.kind;
     let negative = n.kind;
     Counts {
