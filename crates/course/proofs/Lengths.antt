@@ -1,5 +1,5 @@
 -- How many points are kept, and how many joints they make: as many. Assumes nothing.
-use Prim.Native.Nat.{suc, _+_, _≤_}
+use Prim.Native.Nat.{ℕ, suc, _+_, _≤_}
 use mathlib.Core.Path.{_≡_, refl, _∙_}
 use mathlib.Core.Bool.{Bool, true, false, cond}
 use mathlib.Core.List.{List, [], _∷_, _++_}
@@ -8,7 +8,7 @@ use lib.ListN.{length, length-append}
 use Rattle.endpoint.specs.declared.Endpoint.{Endpoint}
 use Rattle.path.specs.declared.options.Stroke.{Stroke}
 use Rattle.course.specs.Kept.{near, keptBehind, allNear, trimmed, keptPoints}
-use Rattle.course.specs.Leg.{firstLegOf, nextLegOf}
+use Rattle.course.specs.Leg.{firstLegOf}
 use Rattle.course.specs.Joint.{jointsFrom, jointsOf}
 use Rattle.course.specs.declared.leg.Leg.{Leg}
 
@@ -36,12 +36,15 @@ kept-few closed [] = omega arith
 kept-few true (p ∷ ps) = omega (arith, trimmed-few p (keptBehind p ps), behind-few p ps)
 kept-few false (p ∷ ps) = omega (arith, behind-few p ps)
 
+one-more : (a b c : ℕ) → a ≡ b + c → suc a ≡ suc b + c
+one-more a b c h = omega arith
+
 -- an open run has its end cap too
 joints-from : (closed : Bool) (o : Stroke) (leg : Leg) (ps : List Endpoint) → length (jointsFrom closed o leg ps) ≡ length ps + cond closed 0 1
 unfolding jointsFrom
 joints-from true o leg [] = refl
 joints-from false o leg [] = refl
-joints-from closed o leg (p ∷ ps) = omega (arith, joints-from closed o (nextLegOf (o .«half_width») leg p) ps)
+joints-from closed o leg (p ∷ ps) = one-more _ _ _ (joints-from closed o _ ps)
 
 pub joints-length : (closed : Bool) (o : Stroke) (p q : Endpoint) (ks : List Endpoint) → length (jointsOf closed o (p ∷ q ∷ ks)) ≡ length (p ∷ q ∷ ks)
 unfolding jointsOf
