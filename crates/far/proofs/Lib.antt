@@ -4,10 +4,8 @@ pub mod Path
 pub mod Course
 pub mod Edge
 pub mod Ranges
--- below these, over any floats: rounding in whole numbers, the operations by their operands' values, sums that stay apart, squared lengths, and
--- the bound of an offset
-pub mod Rounding
-pub mod Values
-pub mod Sums
-pub mod Squares
+-- below these, of two points and the offset between them and a side: how far apart not near is, the bound of an offset, and two points that it moves.
+-- What f32 does to any numbers is in `rounding`
+pub mod Apart
 pub mod Offsets
+pub mod Moved

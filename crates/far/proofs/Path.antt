@@ -1,6 +1,7 @@
--- An accepted path with accepted options has no short edge: refusal 5 is never earned. Assumes nothing.
+-- An accepted path with accepted options has no short edge: refusal 5 is never earned. Each point of each run is inside the limits, so no run has a
+-- short leg, and the path's edges are those of its runs. Assumes nothing.
 use mathlib.Core.Path.{_≡_}
-use Prim.Native.Nat.{ℕ, zero, suc, _+_, _<_}
+use Prim.Native.Nat.{ℕ, suc, _+_, _<_}
 use mathlib.Core.Bool.{Bool, true, false}
 use mathlib.Core.List.{List, [], _∷_}
 use native.Mathlib.Omega.{arith}
@@ -20,23 +21,13 @@ use Rattle.path.proofs.Laws.{within-at}
 use Rattle.points.specs.Points.{endpointsOf}
 use Rattle.course.specs.Kept.{keptPoints}
 use Rattle.course.specs.Leg.{legsOf, firstShort}
+use Rattle.course.proofs.All.{All, all-append, all-take, all-drop}
 use Rattle.drive.specs.Runs.{runsOf, meshEdges}
-use Rattle.far.proofs.Ranges.{coordinate, half-width}
-use Rattle.far.proofs.Offsets.{Half}
-use Rattle.far.proofs.Course.{AllIn, NoShort, none-short, both-none, run-none}
+use Rattle.far.proofs.Ranges.{Half, coordinate, half-width}
+use Rattle.far.proofs.Course.{PointIn, NotShort, none-short, run-none}
 
 -- ---- the points of a path
-take-in : (n : ℕ) (ps : List Endpoint) → AllIn ps → AllIn (take n ps)
-take-in zero ps i = tt
-take-in (suc n) [] i = tt
-take-in (suc n) (p ∷ ps) i = (i .0, take-in n ps (i .1))
-
-drop-in : (n : ℕ) (ps : List Endpoint) → AllIn ps → AllIn (drop n ps)
-drop-in zero ps i = i
-drop-in (suc n) [] i = tt
-drop-in (suc n) (p ∷ ps) i = drop-in n ps (i .1)
-
-points-in : (first : ℕ) (cs : List Float) → ((i : ℕ) → i < length cs → coordinateIn (getD cs i nan) ≡ true) → AllIn (endpointsOf first cs)
+points-in : (first : ℕ) (cs : List Float) → ((i : ℕ) → i < length cs → coordinateIn (getD cs i nan) ≡ true) → All PointIn (endpointsOf first cs)
 unfolding endpointsOf
 points-in first [] f = tt
 points-in first (x ∷ []) f = tt
@@ -44,27 +35,31 @@ points-in first (x ∷ y ∷ cs) f =
     (record { x = coordinate x (f 0 (omega arith)); y = coordinate y (f 1 (omega arith)) }, points-in (first + 1) cs (λ i h. f (suc (suc i)) (omega arith)))
 
 -- ---- its runs
-abbrev RunsIn : List (Run Endpoint) → Type 0
-RunsIn [] = Unit {0}
-RunsIn (r ∷ rs) = AllIn (r .points) × RunsIn rs
+abbrev pub RunIn : Run Endpoint → Type 0
+RunIn r = All PointIn (r .points)
 
-runs-in : (n : ℕ) (vs : List ℕ) (ps : List Endpoint) → AllIn ps → RunsIn (runsFrom n vs ps)
+runs-in : (n : ℕ) (vs : List ℕ) (ps : List Endpoint) → All PointIn ps → All RunIn (runsFrom n vs ps)
 unfolding runsFrom
 runs-in n [] ps i = tt
-runs-in n (v ∷ vs) ps i = go (names v) (runs-in (n + 1) vs ps i) (runs-in 0 vs (drop n ps) (drop-in n ps i))
+runs-in n (v ∷ vs) ps i = go (names v) (runs-in (n + 1) vs ps i) (runs-in 0 vs (drop n ps) (all-drop PointIn n ps i))
   where
-    go : (t : Bool) → RunsIn (runsFrom (n + 1) vs ps) → RunsIn (runsFrom 0 vs (drop n ps))
-        → RunsIn (pick t (runsFrom (n + 1) vs ps) (record { closed = eqb v endClosed; points = take n ps } ∷ runsFrom 0 vs (drop n ps)))
+    go : (t : Bool) → All RunIn (runsFrom (n + 1) vs ps) → All RunIn (runsFrom 0 vs (drop n ps))
+        → All RunIn (pick t (runsFrom (n + 1) vs ps) (record { closed = eqb v endClosed; points = take n ps } ∷ runsFrom 0 vs (drop n ps)))
     go true a b = a
-    go false a b = (take-in n ps i, b)
+    go false a b = (all-take PointIn n ps i, b)
 
-edges-none : (o : Stroke) → Half (o .«half_width») → (rs : List (Run Endpoint)) → RunsIn rs → NoShort (meshEdges o rs)
+pub path-in : (verbs : List ℕ) (coords : List Float) → Sound verbs coords → All RunIn (runsOf verbs coords)
+path-in verbs coords s = runs-in 0 verbs (endpointsOf 0 coords) (points-in 0 coords (within-at coords (s .within)))
+
+-- ---- their edges
+edges-none : (o : Stroke) → Half (o .«half_width») → (rs : List (Run Endpoint)) → All RunIn rs → All NotShort (meshEdges o rs)
 unfolding meshEdges
 edges-none o h [] i = tt
-edges-none o h (r ∷ rs) i = both-none (legsOf (r .closed) (o .«half_width») (keptPoints (r .closed) (r .points))) (meshEdges o rs) (run-none (o .«half_width») h (r .closed) (r .points) (i .0)) (edges-none o h rs (i .1))
+edges-none o h (r ∷ rs) i =
+    all-append NotShort (legsOf (r .closed) (o .«half_width») (keptPoints (r .closed) (r .points))) (meshEdges o rs)
+    (run-none (o .«half_width») h (r .closed) (r .points) (i .0)) (edges-none o h rs (i .1))
 
 -- ---- "5: an edge whose offset points on a side have f32 squared distance below 2^-40": there is none
 pub no-short : (options : Options) (o : Stroke) (verbs : List ℕ) (coords : List Float) → strokeOf options ≡ accepting o → Sound verbs coords
     → firstShort (meshEdges o (runsOf verbs coords)) ≡ length (meshEdges o (runsOf verbs coords))
-no-short options o verbs coords e s =
-    none-short (meshEdges o (runsOf verbs coords)) (edges-none o (half-width options o e) (runsOf verbs coords) (runs-in 0 verbs (endpointsOf 0 coords) (points-in 0 coords (within-at coords (s .within)))))
+no-short options o verbs coords e s = none-short (meshEdges o (runsOf verbs coords)) (edges-none o (half-width options o e) (runsOf verbs coords) (path-in verbs coords s))

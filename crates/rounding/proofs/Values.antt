@@ -1,5 +1,6 @@
 -- The value of a finite float as a signed fraction, `HasValue x s a c`, and the operations of f32 by it: each is `round` of the exact result, and
--- what `round` makes is a whole number of units of 2 ^ -149. Assumes nothing.
+-- what `round` makes is a whole number of units of 2 ^ -149. Each operation brings its operands to one scale; of a sum the two signs are four cases.
+-- Assumes nothing.
 use mathlib.Core.Path.{_≡_, refl, sym, ap, _∙_, subst}
 use Prim.Native.Nat.{ℕ, _+_, _-_, _*_, _^_, _≤_, _<_}
 use native.Mathlib.Nat.{le-of-lt, lt-irrefl, lt-of-lt-of-le, lt-of-le-of-lt, mul-assoc, mul-comm, mul-right-comm, mul-mul-mul-comm, mul-sub, mul-le-mul-right, mul-lt-mul-of-pos-right, le-of-mul-le-mul-right, lt-of-mul-lt-mul-right, eq-of-mul-eq-mul-right, mul-pos}
@@ -12,7 +13,9 @@ use lib.Ieee.Exact.{HasValue, units-val}
 use lib.Ieee.Order.{drop, kept}
 use lib.Ieee.Scale.{round-same, finite}
 use lib.Ieee.Positive.{num, den, first-pos}
-use Rattle.far.proofs.Rounding.{rounded, one}
+use Rattle.rounding.proofs.Rounding.{rounded}
+use Rattle.rounding.proofs.Scales.{one}
+use Rattle.rounding.proofs.Signed.{Sums}
 
 -- ---- a value as a fraction
 abbrev pub sign : Float → Bool
@@ -20,22 +23,22 @@ sign nan = false
 sign (inf s) = s
 sign (fin s m e) = s
 
-pub own : (x : Float) → T (finite x) → HasValue x (sign x) (num x) (den x)
-own nan f = absurd f
-own (inf s) f = absurd f
-own (fin s m e) f = (refl, refl)
+pub finite-value : (x : Float) → T (finite x) → HasValue x (sign x) (num x) (den x)
+finite-value nan f = absurd f
+finite-value (inf s) f = absurd f
+finite-value (fin s m e) f = (refl, refl)
 
 -- at another scale
-pub scale : (x : Float) (s : Bool) (a c k : ℕ) → HasValue x s a c → HasValue x s (a * k) (c * k)
-scale nan s a c k h = absurd h
-scale (inf t) s a c k h = absurd h
-scale (fin t m e) s a c k h = (h .0, sym (mul-assoc (m * up e) c k) ∙ ap (λ (z : ℕ). z * k) (h .1) ∙ mul-right-comm a (down e) k)
+pub scaled-value : (x : Float) (s : Bool) (a c k : ℕ) → HasValue x s a c → HasValue x s (a * k) (c * k)
+scaled-value nan s a c k h = absurd h
+scaled-value (inf t) s a c k h = absurd h
+scaled-value (fin t m e) s a c k h = (h .0, sym (mul-assoc (m * up e) c k) ∙ ap (λ (z : ℕ). z * k) (h .1) ∙ mul-right-comm a (down e) k)
 
-pub negated : (x : Float) (s : Bool) (a c : ℕ) → HasValue x s a c → HasValue (neg x) (not s) a c
+pub negated-value : (x : Float) (s : Bool) (a c : ℕ) → HasValue x s a c → HasValue (neg x) (not s) a c
 unfolding neg
-negated nan s a c h = absurd h
-negated (inf t) s a c h = absurd h
-negated (fin t m e) s a c h = (ap not (h .0), h .1)
+negated-value nan s a c h = absurd h
+negated-value (inf t) s a c h = absurd h
+negated-value (fin t m e) s a c h = (ap not (h .0), h .1)
 
 -- ---- what `round` makes
 pub round-value : (s : Bool) (a c : ℕ) → rounded (a * one) c ≤ 2 ^ 100 * one → HasValue (round binary32 s a c) s (rounded (a * one) c) one
@@ -86,28 +89,19 @@ div-round (fin u m e) (fin v n g) s t a b c B C h k =
     ∙ ap (λ (z : Bool). round binary32 (unlike s z) X Y) (k .0)
     ∙ round-same binary32 (unlike s t) X Y a b (mul-pos p (down-pos e)) B (cross-out (m * up e) (n * up g) (down e) (down g) a b c C (h .1) (k .1))
 
--- ---- the sum. Of ±a the part above zero and the part below
-abbrev pub above : Bool → ℕ → ℕ
-above true a = 0
-above false a = a
-
-abbrev pub under : Bool → ℕ → ℕ
-under true a = a
-under false a = 0
-
--- ±w is ±a + ±b
-abbrev pub Sums : Bool → ℕ → Bool → ℕ → Bool → ℕ → Type 0
-Sums s a t b r w = above r w + under s a + under t b ≡ under r w + above s a + above t b
-
-abbrev pub Rounds : Float → Bool → ℕ → Bool → ℕ → ℕ → Type 0
-Rounds z s a t b c = (r : Bool) × (w : ℕ) × (z ≡ round binary32 r w c) × Sums s a t b r w
+-- ---- the sum: z is ±a / c + ±b / c rounded, the exact sum is ±w / c
+pub record Rounds (z : Float) (s : Bool) (a : ℕ) (t : Bool) (b c : ℕ) : Type 0 where
+  pub r : Bool
+  pub w : ℕ
+  pub is : z ≡ round binary32 r w c
+  pub sums : Sums s a t b r w
 
 module _ (A B k a b c : ℕ) (K : 0 < k) (C : 0 < c) (p : A * c ≡ a * k) (q : B * c ≡ b * k) where
-  less : A < B → a < b
-  less h = lt-of-mul-lt-mul-right k (subst (λ (z : ℕ). z < b * k) p (subst (λ (z : ℕ). A * c < z) q (mul-lt-mul-of-pos-right h C)))
+  cross-lt : A < B → a < b
+  cross-lt h = lt-of-mul-lt-mul-right k (subst (λ (z : ℕ). z < b * k) p (subst (λ (z : ℕ). A * c < z) q (mul-lt-mul-of-pos-right h C)))
 
-  no-more : A ≤ B → a ≤ b
-  no-more h = le-of-mul-le-mul-right (subst (λ (z : ℕ). z ≤ b * k) p (subst (λ (z : ℕ). A * c ≤ z) q (mul-le-mul-right c h))) K
+  cross-le : A ≤ B → a ≤ b
+  cross-le h = le-of-mul-le-mul-right (subst (λ (z : ℕ). z ≤ b * k) p (subst (λ (z : ℕ). A * c ≤ z) q (mul-le-mul-right c h))) K
 
   added : (s : Bool) → round binary32 s (A + B) k ≡ round binary32 s (a + b) c
   added s = round-same binary32 s (A + B) k (a + b) c K C (omega arith)
@@ -119,22 +113,22 @@ module _ (A B k a b c : ℕ) (K : 0 < k) (C : 0 < c) (p : A * c ≡ a * k) (q : 
 
 module _ (A B k a b c : ℕ) (K : 0 < k) (C : 0 < c) (p : A * c ≡ a * k) (q : B * c ≡ b * k) where
   from-above : (t : Bool) → (T t → A < B) → (T (not t) → B ≤ A) → Rounds (cond t (round binary32 true (B - A) k) (round binary32 false (A - B) k)) false a true b c
-  from-above true h g = let l = no-more A B k a b c K C p q (le-of-lt (h tt)) in (true, b - a, taken A B k a b c K C p q true (le-of-lt (h tt)), omega arith)
-  from-above false h g = let l = no-more B A k b a c K C q p (g tt) in (false, a - b, taken B A k b a c K C q p false (g tt), omega arith)
+  from-above true h g = let l = cross-le A B k a b c K C p q (le-of-lt (h tt)) in record { r = true; w = b - a; is = taken A B k a b c K C p q true (le-of-lt (h tt)); sums = omega arith }
+  from-above false h g = let l = cross-le B A k b a c K C q p (g tt) in record { r = false; w = a - b; is = taken B A k b a c K C q p false (g tt); sums = omega arith }
 
   from-under : (t u : Bool) → (T t → A < B) → (T (not t) → B ≤ A) → (T (not u) → A ≤ B)
       → Rounds (cond t (round binary32 false (B - A) k) (round binary32 (true && u) (A - B) k)) true a false b c
-  from-under true u h g f = let l = no-more A B k a b c K C p q (le-of-lt (h tt)) in (false, b - a, taken A B k a b c K C p q false (le-of-lt (h tt)), omega arith)
-  from-under false true h g f = let l = no-more B A k b a c K C q p (g tt) in (true, a - b, taken B A k b a c K C q p true (g tt), omega arith)
+  from-under true u h g f = let l = cross-le A B k a b c K C p q (le-of-lt (h tt)) in record { r = false; w = b - a; is = taken A B k a b c K C p q false (le-of-lt (h tt)); sums = omega arith }
+  from-under false true h g f = let l = cross-le B A k b a c K C q p (g tt) in record { r = true; w = a - b; is = taken B A k b a c K C q p true (g tt); sums = omega arith }
   from-under false false h g f =
-      let l = no-more B A k b a c K C q p (g tt) in
-      let m = no-more A B k a b c K C p q (f tt) in
-      (false, a - b, taken B A k b a c K C q p false (g tt), omega arith)
+      let l = cross-le B A k b a c K C q p (g tt) in
+      let m = cross-le A B k a b c K C p q (f tt) in
+      record { r = false; w = a - b; is = taken B A k b a c K C q p false (g tt); sums = omega arith }
 
   sum-round : (s t : Bool) → Rounds (sum binary32 s A t B k) s a t b c
   unfolding sum
-  sum-round true true = (true, a + b, added A B k a b c K C p q true, omega arith)
-  sum-round false false = (false, a + b, added A B k a b c K C p q false, omega arith)
+  sum-round true true = record { r = true; w = a + b; is = added A B k a b c K C p q true; sums = omega arith }
+  sum-round false false = record { r = false; w = a + b; is = added A B k a b c K C p q false; sums = omega arith }
   sum-round false true = from-above (ltb A B) (ltb→lt A B) (nltb→le A B)
   sum-round true false = from-under (ltb A B) (ltb B A) (ltb→lt A B) (nltb→le A B) (nltb→le B A)
 
@@ -175,12 +169,12 @@ add-plain (fin false m e) (fin false n g) a b c C h k =
 
 pub sub-round : (x y : Float) (s t : Bool) (a b c : ℕ) → 0 < c → HasValue x s a c → HasValue y t b c → Rounds (sub binary32 x y) s a (not t) b c
 unfolding sub
-sub-round x y s t a b c C h k = add-round x (neg y) s (not t) a b c C h (negated y t b c k)
+sub-round x y s t a b c C h k = add-round x (neg y) s (not t) a b c C h (negated-value y t b c k)
 
 -- ---- the order of values that are not negative
 lt-is : (A B k a b c : ℕ) → 0 < k → 0 < c → A * c ≡ a * k → B * c ≡ b * k → (t : Bool) → (T t → A < B) → (T (not t) → B ≤ A) → (t ≡ false → b ≤ a) × (b ≤ a → t ≡ false)
-lt-is A B k a b c K C p q true h g = (λ (e : true ≡ false). absurd (true≢false e), λ (l : b ≤ a). absurd (lt-irrefl a (lt-of-lt-of-le (less A B k a b c K C p q (h tt)) l)))
-lt-is A B k a b c K C p q false h g = (λ (e : false ≡ false). no-more B A k b a c K C q p (g tt), λ (l : b ≤ a). refl)
+lt-is A B k a b c K C p q true h g = (λ (e : true ≡ false). absurd (true≢false e), λ (l : b ≤ a). absurd (lt-irrefl a (lt-of-lt-of-le (cross-lt A B k a b c K C p q (h tt)) l)))
+lt-is A B k a b c K C p q false h g = (λ (e : false ≡ false). cross-le B A k b a c K C q p (g tt), λ (l : b ≤ a). refl)
 
 pub lt-value : (x y : Float) (a b c : ℕ) → 0 < c → HasValue x false a c → HasValue y false b c → (lt x y ≡ false → b ≤ a) × (b ≤ a → lt x y ≡ false)
 unfolding lt
