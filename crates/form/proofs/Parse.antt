@@ -1,4 +1,5 @@
--- From the machine to the form: a text that the machine takes has the form. Assumes nothing.
+-- From the machine to the form: a text that the machine takes has the form. `To` says what is to come in each mode, and `rows` what a byte before it
+-- makes of that, a row to each mode of the table; so `parse` goes back from the end of a text to its start. Assumes nothing.
 use Prim.Native.Nat.{ℕ}
 use mathlib.Core.Path.{_≡_, refl, ap, _∙_, subst}
 use mathlib.Core.Bool.{true, false}
@@ -9,7 +10,7 @@ use Rattle.form.specs.declared.machine.Mode.{Mode}
 use Rattle.form.specs.declared.machine.Mode.the-variants.{Start, Closed, WantX, SignX, DigitX, GapX, WantY, SignY, DigitY, GapY, Lost}
 use Rattle.form.specs.Bytes.{classOf}
 use Rattle.form.specs.Form.{Byte, Blanks, Digits, bytes, Number, bare, signed, number, Next, spaced, parted, joined, next, Pair, pairs, Points, points, Command, move, line, close, commands, Text, empty, drawn, text, HasForm}
-use Rattle.form.specs.Machine.{nextOf, final, mayEnd}
+use Rattle.form.specs.Machine.{rowOf, nextOf, final, mayEnd}
 
 pub never : false ≡ true → ⊥
 never e = subst (λ b. elim b as (λ x. Type 0) [ false ↦ Unit | true ↦ ⊥ ]) e tt
@@ -170,96 +171,50 @@ module _ (b : ℕ) (s : List ℕ) where
   end-blank e (left t) = done (grow e t)
   end-blank e (right t) = pair (gapped e t)
 
-  -- one byte back
+  -- one byte back, by the rows of the table
+  stop : {k : Class} {A : Type 0} → classOf b ≡ k → ⊥ → A
+  stop e t = absurd t
+
+  record Commands (moved lined closed : Mode) (A : Type 0) : Type 0 where
+    moves : classOf b ≡ MoveTo → To moved s → A
+    lines : classOf b ≡ LineTo → To lined s → A
+    closes : classOf b ≡ ClosePath → To closed s → A
+
+  none : {A : Type 0} → Commands Lost Lost Lost A
+  none = record { moves = stop; lines = stop; closes = stop }
+
+  any : {A : Type 0} → (Tail (b ∷ s) → A) → Commands WantX WantX Closed A
+  any f = record { moves = λ e t. f (by-move e t); lines = λ e t. f (by-line e t); closes = λ e t. f (by-close e t) }
+
+  record Back (m : Mode) : Type 0 where
+    blank : classOf b ≡ Blank → To (rowOf m .blank) s → To m (b ∷ s)
+    comma : classOf b ≡ Comma → To (rowOf m .comma) s → To m (b ∷ s)
+    sign : classOf b ≡ Sign → To (rowOf m .sign) s → To m (b ∷ s)
+    digit : classOf b ≡ Digit → To (rowOf m .digit) s → To m (b ∷ s)
+    commands : Commands (rowOf m .stand .«move_to») (rowOf m .stand .«line_to») (rowOf m .stand .«close_path») (To m (b ∷ s))
+
+  rows : (m : Mode) → Back m
+  rows Start = record { blank = first-blank; comma = stop; sign = stop; digit = stop; commands = record { moves = first-move; lines = stop; closes = stop } }
+  rows Closed = record { blank = grow; comma = stop; sign = stop; digit = stop; commands = any (λ t. t) }
+  rows WantX = record { blank = grow; comma = stop; sign = λ e t. skip (by-sign e t); digit = λ e t. skip (by-digit e t); commands = none }
+  rows SignX = record { blank = stop; comma = stop; sign = stop; digit = more-digits; commands = none }
+  rows DigitX = record { blank = λ e t. skip (gapped e t); comma = λ e t. skip (by-comma e t); sign = λ e t. skip (by-join e t); digit = grow; commands = none }
+  rows GapX = record { blank = rest-blank; comma = rest-comma; sign = λ e t. rest-number (by-sign e t); digit = λ e t. rest-number (by-digit e t); commands = none }
+  rows WantY = record { blank = grow; comma = stop; sign = λ e t. skip (by-sign e t); digit = λ e t. skip (by-digit e t); commands = none }
+  rows SignY = record { blank = stop; comma = stop; sign = stop; digit = more-digits; commands = none }
+  rows DigitY = record { blank = λ e t. skip (end-blank e t); comma = λ e t. skip (pair (by-comma e t)); sign = λ e t. skip (pair (by-join e t)); digit = grow; commands = any (λ t. skip (done t)) }
+  rows GapY = record { blank = gap-blank; comma = λ e t. right (rest-comma e t); sign = λ e t. right (rest-number (by-sign e t)); digit = λ e t. right (rest-number (by-digit e t)); commands = any (λ t. left t) }
+  rows Lost = record { blank = stop; comma = stop; sign = stop; digit = stop; commands = none }
+
   back : (m : Mode) (k : Class) → classOf b ≡ k → To (nextOf m k) s → To m (b ∷ s)
-  back Start Blank e t = first-blank e t
-  back Start Comma e t = absurd t
-  back Start Sign e t = absurd t
-  back Start Digit e t = absurd t
-  back Start MoveTo e t = first-move e t
-  back Start LineTo e t = absurd t
-  back Start ClosePath e t = absurd t
-  back Start Other e t = absurd t
-  back Closed Blank e t = grow e t
-  back Closed Comma e t = absurd t
-  back Closed Sign e t = absurd t
-  back Closed Digit e t = absurd t
-  back Closed MoveTo e t = by-move e t
-  back Closed LineTo e t = by-line e t
-  back Closed ClosePath e t = by-close e t
-  back Closed Other e t = absurd t
-  back WantX Blank e t = grow e t
-  back WantX Comma e t = absurd t
-  back WantX Sign e t = skip (by-sign e t)
-  back WantX Digit e t = skip (by-digit e t)
-  back WantX MoveTo e t = absurd t
-  back WantX LineTo e t = absurd t
-  back WantX ClosePath e t = absurd t
-  back WantX Other e t = absurd t
-  back SignX Blank e t = absurd t
-  back SignX Comma e t = absurd t
-  back SignX Sign e t = absurd t
-  back SignX Digit e t = more-digits e t
-  back SignX MoveTo e t = absurd t
-  back SignX LineTo e t = absurd t
-  back SignX ClosePath e t = absurd t
-  back SignX Other e t = absurd t
-  back DigitX Blank e t = skip (gapped e t)
-  back DigitX Comma e t = skip (by-comma e t)
-  back DigitX Sign e t = skip (by-join e t)
-  back DigitX Digit e t = grow e t
-  back DigitX MoveTo e t = absurd t
-  back DigitX LineTo e t = absurd t
-  back DigitX ClosePath e t = absurd t
-  back DigitX Other e t = absurd t
-  back GapX Blank e t = rest-blank e t
-  back GapX Comma e t = rest-comma e t
-  back GapX Sign e t = rest-number (by-sign e t)
-  back GapX Digit e t = rest-number (by-digit e t)
-  back GapX MoveTo e t = absurd t
-  back GapX LineTo e t = absurd t
-  back GapX ClosePath e t = absurd t
-  back GapX Other e t = absurd t
-  back WantY Blank e t = grow e t
-  back WantY Comma e t = absurd t
-  back WantY Sign e t = skip (by-sign e t)
-  back WantY Digit e t = skip (by-digit e t)
-  back WantY MoveTo e t = absurd t
-  back WantY LineTo e t = absurd t
-  back WantY ClosePath e t = absurd t
-  back WantY Other e t = absurd t
-  back SignY Blank e t = absurd t
-  back SignY Comma e t = absurd t
-  back SignY Sign e t = absurd t
-  back SignY Digit e t = more-digits e t
-  back SignY MoveTo e t = absurd t
-  back SignY LineTo e t = absurd t
-  back SignY ClosePath e t = absurd t
-  back SignY Other e t = absurd t
-  back DigitY Blank e t = skip (end-blank e t)
-  back DigitY Comma e t = skip (pair (by-comma e t))
-  back DigitY Sign e t = skip (pair (by-join e t))
-  back DigitY Digit e t = grow e t
-  back DigitY MoveTo e t = skip (done (by-move e t))
-  back DigitY LineTo e t = skip (done (by-line e t))
-  back DigitY ClosePath e t = skip (done (by-close e t))
-  back DigitY Other e t = absurd t
-  back GapY Blank e t = gap-blank e t
-  back GapY Comma e t = right (rest-comma e t)
-  back GapY Sign e t = right (rest-number (by-sign e t))
-  back GapY Digit e t = right (rest-number (by-digit e t))
-  back GapY MoveTo e t = left (by-move e t)
-  back GapY LineTo e t = left (by-line e t)
-  back GapY ClosePath e t = left (by-close e t)
-  back GapY Other e t = absurd t
-  back Lost Blank e t = absurd t
-  back Lost Comma e t = absurd t
-  back Lost Sign e t = absurd t
-  back Lost Digit e t = absurd t
-  back Lost MoveTo e t = absurd t
-  back Lost LineTo e t = absurd t
-  back Lost ClosePath e t = absurd t
-  back Lost Other e t = absurd t
+  back m Blank e t = rows m .blank e t
+  back m Comma e t = rows m .comma e t
+  back m Sign e t = rows m .sign e t
+  back m Digit e t = rows m .digit e t
+  back m MoveTo e t = rows m .commands .moves e t
+  back m LineTo e t = rows m .commands .lines e t
+  back m ClosePath e t = rows m .commands .closes e t
+  back m Other e t = absurd t
 
 -- a text may end here
 end-here : (m : Mode) → mayEnd m ≡ true → To m []

@@ -5,6 +5,8 @@ use mathlib.Core.Bool.{Bool, true, false, cond}
 use mathlib.Core.List.{List, [], _∷_, _++_}
 use native.Mathlib.Omega.{arith}
 use lib.ListN.{length, take}
+use Rattle.form.specs.declared.classes.Class.{Class}
+use Rattle.form.specs.declared.classes.Class.the-variants.{Blank, Comma, Sign, Digit, MoveTo, LineTo, ClosePath, Other}
 use Rattle.form.specs.declared.machine.Mode.{Mode}
 use Rattle.form.specs.declared.machine.Mode.the-variants.{Start, Closed, WantX, SignX, DigitX, GapX, WantY, SignY, DigitY, GapY, Lost}
 use Rattle.form.specs.Bytes.{classOf}
@@ -18,55 +20,54 @@ final-append : (m : Mode) (s r : List ℕ) → final m (s ++ r) ≡ final (final
 final-append m [] r = refl
 final-append m (b ∷ s) r = final-append (nextOf m (classOf b)) s r
 
--- how a text can still be ended, in zeros and commas
-rest : Mode → List ℕ
-rest Start = []
-rest Closed = []
-rest WantX = 48 ∷ 44 ∷ 48 ∷ []
-rest SignX = 48 ∷ 44 ∷ 48 ∷ []
-rest DigitX = 44 ∷ 48 ∷ []
-rest GapX = 48 ∷ []
-rest WantY = 48 ∷ []
-rest SignY = 48 ∷ []
-rest DigitY = []
-rest GapY = []
-rest Lost = []
+-- a mode is lost, or the text can still be ended, in zeros and commas
+data Way (m : Mode) : Type 0 where
+  out : isLost m ≡ true → m ≡ Lost → Way m
+  on : isLost m ≡ false → (r : List ℕ) → mayEnd (final m r) ≡ true → Way m
 
-ended : (m : Mode) → isLost m ≡ false → mayEnd (final m (rest m)) ≡ true
-unfolding rest classOf
-ended Start e = refl
-ended Closed e = refl
-ended WantX e = refl
-ended SignX e = refl
-ended DigitX e = refl
-ended GapX e = refl
-ended WantY e = refl
-ended SignY e = refl
-ended DigitY e = refl
-ended GapY e = refl
-ended Lost e = absurd (never (sym e))
-
--- lost stays lost
-pub lost-final : (s : List ℕ) → final Lost s ≡ Lost
-lost-final [] = refl
-lost-final (b ∷ s) = lost-final s
+way : (m : Mode) → Way m
+unfolding classOf
+way Start = on refl [] refl
+way Closed = on refl [] refl
+way WantX = on refl (48 ∷ 44 ∷ 48 ∷ []) refl
+way SignX = on refl (48 ∷ 44 ∷ 48 ∷ []) refl
+way DigitX = on refl (44 ∷ 48 ∷ []) refl
+way GapX = on refl (48 ∷ []) refl
+way WantY = on refl (48 ∷ []) refl
+way SignY = on refl (48 ∷ []) refl
+way DigitY = on refl [] refl
+way GapY = on refl [] refl
+way Lost = out refl refl
 
 pub is-lost : (m : Mode) → isLost m ≡ true → m ≡ Lost
-is-lost Start e = absurd (never e)
-is-lost Closed e = absurd (never e)
-is-lost WantX e = absurd (never e)
-is-lost SignX e = absurd (never e)
-is-lost DigitX e = absurd (never e)
-is-lost GapX e = absurd (never e)
-is-lost WantY e = absurd (never e)
-is-lost SignY e = absurd (never e)
-is-lost DigitY e = absurd (never e)
-is-lost GapY e = absurd (never e)
-is-lost Lost e = refl
+is-lost m e = go (way m)
+  where
+    go : Way m → m ≡ Lost
+    go (out l p) = p
+    go (on l r p) = absurd (never (sym l ∙ e))
+
+-- lost stays lost
+lost-next : (k : Class) → nextOf Lost k ≡ Lost
+lost-next Blank = refl
+lost-next Comma = refl
+lost-next Sign = refl
+lost-next Digit = refl
+lost-next MoveTo = refl
+lost-next LineTo = refl
+lost-next ClosePath = refl
+lost-next Other = refl
+
+pub lost-final : (s : List ℕ) → final Lost s ≡ Lost
+lost-final [] = refl
+lost-final (b ∷ s) = ap (λ m. final m s) (lost-next (classOf b)) ∙ lost-final s
 
 -- not lost exactly while the text begins one of the form
 pub begins-when : (s : List ℕ) → isLost (final Start s) ≡ false → Begins s
-begins-when s e = (rest (final Start s), taken-form (s ++ rest (final Start s)) (ap mayEnd (final-append Start s (rest (final Start s))) ∙ ended (final Start s) e))
+begins-when s e = go (way (final Start s))
+  where
+    go : Way (final Start s) → Begins s
+    go (out l p) = absurd (never (sym e ∙ l))
+    go (on l r p) = (r, taken-form (s ++ r) (ap mayEnd (final-append Start s r) ∙ p))
 
 pub lost-begins-not : (s : List ℕ) → isLost (final Start s) ≡ true → Begins s → ⊥
 lost-begins-not s e b =

@@ -1,14 +1,15 @@
 -- From the form to the machine: a text of the form is taken. Assumes nothing.
 use Prim.Native.Nat.{ℕ}
 use mathlib.Core.Path.{_≡_, refl, ap, _∙_}
-use mathlib.Core.Bool.{true}
+use mathlib.Core.Bool.{true, false}
 use mathlib.Core.List.{List, [], _∷_}
 use Rattle.form.specs.declared.classes.Class.{Class}
 use Rattle.form.specs.declared.classes.Class.the-variants.{Comma, Sign, Digit, MoveTo, LineTo, ClosePath}
 use Rattle.form.specs.declared.machine.Mode.{Mode}
 use Rattle.form.specs.declared.machine.Mode.the-variants.{Start, Closed, WantX, SignX, DigitX, GapX, WantY, SignY, DigitY, GapY}
+use Rattle.form.specs.declared.machine.Part.the-variants.{No}
 use Rattle.form.specs.Form.{Byte, Blanks, bytes, Number, bare, signed, number, Next, spaced, parted, joined, next, Pair, pairs, Points, points, Command, move, line, close, command, commands, Text, empty, drawn, text}
-use Rattle.form.specs.Machine.{nextOf, final, mayEnd}
+use Rattle.form.specs.Machine.{rowOf, nextOf, final, mayEnd}
 
 -- what each part does to a mode
 into : {k : Class} (m : Mode) (b : Byte k) (r : List ℕ) → final m (b .code ∷ r) ≡ final (nextOf m k) r
@@ -18,29 +19,33 @@ same-run : {k : Class} (m : Mode) → nextOf m k ≡ m → (bs : List (Byte k)) 
 same-run m e [] r = refl
 same-run m e (b ∷ bs) r = into m b (bytes bs r) ∙ ap (λ n. final n (bytes bs r)) e ∙ same-run m e bs r
 
--- a number, from a mode where one may begin
+-- a number, from a mode m where one may begin: a sign leads to g, and digits to d
 pub record Wants (m g d : Mode) : Type 0 where
+  pub none : rowOf m .part ≡ No
+  pub fresh : rowOf m .going ≡ false
   pub sign : nextOf m Sign ≡ g
   pub digit : nextOf m Digit ≡ d
+  pub begun : rowOf g .going ≡ true
   pub after : nextOf g Digit ≡ d
+  pub going : rowOf d .going ≡ true
   pub again : nextOf d Digit ≡ d
+
+pub want-x : Wants WantX SignX DigitX
+want-x = record { none = refl; fresh = refl; sign = refl; digit = refl; begun = refl; after = refl; going = refl; again = refl }
+
+pub gap-x : Wants GapY SignX DigitX
+gap-x = record { none = refl; fresh = refl; sign = refl; digit = refl; begun = refl; after = refl; going = refl; again = refl }
+
+pub want-y : Wants WantY SignY DigitY
+want-y = record { none = refl; fresh = refl; sign = refl; digit = refl; begun = refl; after = refl; going = refl; again = refl }
+
+pub gap-y : Wants GapX SignY DigitY
+gap-y = record { none = refl; fresh = refl; sign = refl; digit = refl; begun = refl; after = refl; going = refl; again = refl }
 
 same-number : {m g d : Mode} → Wants m g d → (n : Number) (r : List ℕ) → final m (number n r) ≡ final d r
 same-number {m} {g} {d} w (bare e ds) r = into m e (bytes ds r) ∙ ap (λ x. final x (bytes ds r)) (w .digit) ∙ same-run d (w .again) ds r
 same-number {m} {g} {d} w (signed s e ds) r =
     into m s (e .code ∷ bytes ds r) ∙ ap (λ x. final x (e .code ∷ bytes ds r)) (w .sign) ∙ into g e (bytes ds r) ∙ ap (λ x. final x (bytes ds r)) (w .after) ∙ same-run d (w .again) ds r
-
-want-x : Wants WantX SignX DigitX
-want-x = record { sign = refl; digit = refl; after = refl; again = refl }
-
-gap-x : Wants GapY SignX DigitX
-gap-x = record { sign = refl; digit = refl; after = refl; again = refl }
-
-want-y : Wants WantY SignY DigitY
-want-y = record { sign = refl; digit = refl; after = refl; again = refl }
-
-gap-y : Wants GapX SignY DigitY
-gap-y = record { sign = refl; digit = refl; after = refl; again = refl }
 
 comma-y : (bs : Blanks) (c : Byte Comma) (r : List ℕ) → final DigitX (bytes bs (c .code ∷ r)) ≡ final WantY r
 comma-y [] c r = into DigitX c r

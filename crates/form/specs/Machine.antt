@@ -6,65 +6,74 @@ use Rattle.form.specs.declared.classes.Class.{Class}
 use Rattle.form.specs.declared.classes.Class.the-variants.{Blank, Comma, Sign, Digit, MoveTo, LineTo, ClosePath, Other}
 use Rattle.form.specs.declared.machine.Mode.{Mode}
 use Rattle.form.specs.declared.machine.Mode.the-variants.{Start, Closed, WantX, SignX, DigitX, GapX, WantY, SignY, DigitY, GapY, Lost}
+use Rattle.form.specs.declared.machine.Part.{Part}
+use Rattle.form.specs.declared.machine.Part.the-variants.{No, X, Y}
+use Rattle.form.specs.declared.machine.Row.{Row}
+use Rattle.form.specs.declared.machine.Stand.{Stand}
 use Rattle.form.specs.Bytes.{classOf}
 
--- a line of the table, by the class of the byte
-abbrev pub rowOf : Class → Mode → Mode → Mode → Mode → Mode → Mode → Mode → Mode
-rowOf Blank a b c d e f g = a
-rowOf Comma a b c d e f g = b
-rowOf Sign a b c d e f g = c
-rowOf Digit a b c d e f g = d
-rowOf MoveTo a b c d e f g = e
-rowOf LineTo a b c d e f g = f
-rowOf ClosePath a b c d e f g = g
-rowOf Other a b c d e f g = Lost
+-- How a text stands to its commands: the modes after M, L and Z; whether no text of the form begins so, whether one may end so, whether a run is open.
+abbrev pub nowhere : Stand
+nowhere = record { «move_to» = Lost; «line_to» = Lost; «close_path» = Lost; lost = true; ends = false; inside = false }
 
--- the table: the mode after a byte, by blank, comma, sign, digit, M, L and Z
+-- in the numbers of a command, more of which must follow
+abbrev pub amid : Stand
+amid = record { «move_to» = Lost; «line_to» = Lost; «close_path» = Lost; lost = false; ends = false; inside = false }
+
+-- "text is empty or begins with M"
+abbrev pub before : Stand
+before = record { «move_to» = WantX; «line_to» = Lost; «close_path» = Lost; lost = false; ends = true; inside = false }
+
+-- "M or the end of text ends a run open"
+abbrev pub inside : Stand
+inside = record { «move_to» = WantX; «line_to» = WantX; «close_path» = Closed; lost = false; ends = true; inside = true }
+
+-- after Z: "L after Z begins a run", "Z after Z adds nothing"
+abbrev pub behind : Stand
+behind = record { «move_to» = WantX; «line_to» = WantX; «close_path» = Closed; lost = false; ends = true; inside = false }
+
+abbrev pub cellsOf : Mode → Mode → Mode → Mode → Stand → Bool → Part → Row
+cellsOf blank comma sign digit stand going part = record { blank = blank; comma = comma; sign = sign; digit = digit; stand = stand; going = going; part = part }
+
+-- The table, a row to each mode. By columns: the modes after white space, a comma, a sign and a digit; the commands; whether a digit goes on with a
+-- number that has begun; the number that ends here where no digit follows.
+abbrev pub rowOf : Mode → Row
+rowOf Start = cellsOf Start Lost Lost Lost before false No
+rowOf Closed = cellsOf Closed Lost Lost Lost behind false No
+rowOf WantX = cellsOf WantX Lost SignX DigitX amid false No
+rowOf SignX = cellsOf Lost Lost Lost DigitX amid true No
+rowOf DigitX = cellsOf GapX WantY SignY DigitX amid true X
+rowOf GapX = cellsOf GapX WantY SignY DigitY amid false No
+rowOf WantY = cellsOf WantY Lost SignY DigitY amid false No
+rowOf SignY = cellsOf Lost Lost Lost DigitY amid true No
+rowOf DigitY = cellsOf GapY WantX SignX DigitY inside true Y
+rowOf GapY = cellsOf GapY WantX SignX DigitX inside false No
+rowOf Lost = cellsOf Lost Lost Lost Lost nowhere false No
+
+-- the mode after a byte of a class
+abbrev pub afterOf : Row → Class → Mode
+afterOf r Blank = r .blank
+afterOf r Comma = r .comma
+afterOf r Sign = r .sign
+afterOf r Digit = r .digit
+afterOf r MoveTo = r .stand .«move_to»
+afterOf r LineTo = r .stand .«line_to»
+afterOf r ClosePath = r .stand .«close_path»
+afterOf r Other = Lost
+
 abbrev pub nextOf : Mode → Class → Mode
-nextOf Start k = rowOf k Start Lost Lost Lost WantX Lost Lost
-nextOf Closed k = rowOf k Closed Lost Lost Lost WantX WantX Closed
-nextOf WantX k = rowOf k WantX Lost SignX DigitX Lost Lost Lost
-nextOf SignX k = rowOf k Lost Lost Lost DigitX Lost Lost Lost
-nextOf DigitX k = rowOf k GapX WantY SignY DigitX Lost Lost Lost
-nextOf GapX k = rowOf k GapX WantY SignY DigitY Lost Lost Lost
-nextOf WantY k = rowOf k WantY Lost SignY DigitY Lost Lost Lost
-nextOf SignY k = rowOf k Lost Lost Lost DigitY Lost Lost Lost
-nextOf DigitY k = rowOf k GapY WantX SignX DigitY WantX WantX Closed
-nextOf GapY k = rowOf k GapY WantX SignX DigitX WantX WantX Closed
-nextOf Lost k = Lost
+nextOf m k = afterOf (rowOf m) k
 
 -- where a text leads
 abbrev pub final : Mode → List ℕ → Mode
 final m [] = m
 final m (b ∷ s) = final (nextOf m (classOf b)) s
 
--- no text of the form begins so
 abbrev pub isLost : Mode → Bool
-isLost Start = false
-isLost Closed = false
-isLost WantX = false
-isLost SignX = false
-isLost DigitX = false
-isLost GapX = false
-isLost WantY = false
-isLost SignY = false
-isLost DigitY = false
-isLost GapY = false
-isLost Lost = true
+isLost m = rowOf m .stand .lost
 
--- whether a text that ends there has the form
 abbrev pub mayEnd : Mode → Bool
-mayEnd Start = true
-mayEnd Closed = true
-mayEnd WantX = false
-mayEnd SignX = false
-mayEnd DigitX = false
-mayEnd GapX = false
-mayEnd WantY = false
-mayEnd SignY = false
-mayEnd DigitY = true
-mayEnd GapY = true
-mayEnd Lost = false
+mayEnd m = rowOf m .stand .ends
 
 -- how many bytes it takes until it is lost
 unfoldable pub stop : Mode → List ℕ → ℕ

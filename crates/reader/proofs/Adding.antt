@@ -9,16 +9,17 @@ use lib.Ieee.{Float}
 use lib.ListN.{length, length-append}
 use Rattle.form.specs.declared.classes.Class.{Class}
 use Rattle.form.specs.declared.classes.Class.the-variants.{Blank, Comma, Sign, Digit, MoveTo, LineTo, ClosePath, Other}
+use Rattle.form.specs.declared.machine.Part.{Part}
+use Rattle.form.specs.declared.machine.Part.the-variants.{No, X, Y}
 use Rattle.form.specs.Bytes.{classOf}
+use Rattle.form.specs.Machine.{rowOf}
 use Rattle.values.specs.declared.events.Event.{Event}
 use Rattle.values.specs.declared.events.Event.the-variants.{Nothing, Begin, Line, EndOpen, EndClosed, Beyond}
 use Rattle.values.specs.declared.known.Known.{Known}
-use Rattle.values.specs.declared.numbers.Part.{Part}
-use Rattle.values.specs.declared.numbers.Part.the-variants.{No, X, Y}
 use Rattle.values.specs.declared.state.Called.{Called}
 use Rattle.values.specs.declared.state.State.{State}
-use Rattle.values.specs.Events.{put, isInside, beyondOf, pointOf, letterOf, endOf}
-use Rattle.values.specs.Numbers.{numberLimit, partOf, endingOf, valueOf}
+use Rattle.values.specs.Events.{put, beyondOf, pointOf, letterOf, endOf}
+use Rattle.values.specs.Numbers.{numberLimit, endingOf, valueOf}
 use Rattle.values.specs.State.{calledOf, endedOf, inTurn}
 use Rattle.reader.specs.declared.counts.Found.the-variants.{Nowhere}
 use Rattle.reader.specs.Counts.{verbOf, coordsAt, largeOf, orElse, verbsOf, coordsOf, firstLarge, verbsCalled, coordsCalled}
@@ -112,13 +113,13 @@ letter-plain inside v Other = refl
 
 pub calls-plain : (s : State) (b : ℕ) → Plain (calledOf s b)
 calls-plain s b =
-    let n = beyond-plain (endingOf (s .mode) (classOf b)) (s .known) in
-    record { no-verb = n .0; no-coords = n .1; point-small = point-plain (endingOf (s .mode) (classOf b)) (s .known); letter-small = letter-plain (isInside (s .mode)) (s .known) (classOf b) }
+    let n = beyond-plain (endingOf (rowOf (s .mode) .part) (classOf b)) (s .known) in
+    record { no-verb = n .0; no-coords = n .1; point-small = point-plain (endingOf (rowOf (s .mode) .part) (classOf b)) (s .known); letter-small = letter-plain (rowOf (s .mode) .stand .inside) (s .known) (classOf b) }
 
 pub end-calls-plain : (s : State) → Plain (endedOf s)
 end-calls-plain s =
-    let n = beyond-plain (partOf (s .mode)) (s .known) in
-    record { no-verb = n .0; no-coords = n .1; point-small = point-plain (partOf (s .mode)) (s .known); letter-small = end-plain (isInside (s .mode)) }
+    let n = beyond-plain (rowOf (s .mode) .part) (s .known) in
+    record { no-verb = n .0; no-coords = n .1; point-small = point-plain (rowOf (s .mode) .part) (s .known); letter-small = end-plain (rowOf (s .mode) .stand .inside) }
 
 module _ (c : Called) (p : Plain c) (es : List Event) where
   pub verbs-turn : verbsOf (inTurn c es) ≡ verbsCalled c ++ verbsOf es

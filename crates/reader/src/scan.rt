@@ -2,8 +2,7 @@
 use crate::counts::Counts;
 use crate::counts::added;
 use crate::counts::no_counts;
-use form::machine::is_lost;
-use form::machine::may_end;
+use form::machine::row_of;
 use values::state::calls_for;
 use values::state::end_calls_for;
 use values::state::start;
@@ -31,7 +30,7 @@ pub(crate) fn scan(text: &[u8]) -> Scanned
         let b = text[i];
         let after = step(s, b, i);
         let m = after.mode;
-        if is_lost(m) {
+        if row_of(m).stand.lost {
             return Scanned::OutOfForm(i);
         }
         c = added(c, calls_for(s, b));
@@ -39,7 +38,7 @@ pub(crate) fn scan(text: &[u8]) -> Scanned
         i += 1;
     }
     let m = s.mode;
-    if may_end(m) {
+    if row_of(m).stand.ends {
         Scanned::Formed(added(c, end_calls_for(s)))
     } else {
         Scanned::OutOfForm(i)

@@ -11,17 +11,19 @@ use borrow.Author.Tests.{lt-ltb, le-ltb}
 use lib.ListN.{length}
 use lib.Ieee.{Float}
 use Rattle.form.specs.declared.classes.Class.{Class}
-use Rattle.form.specs.declared.classes.Class.the-variants.{Sign, Digit}
+use Rattle.form.specs.declared.classes.Class.the-variants.{Blank, Sign, Digit}
 use Rattle.form.specs.declared.machine.Mode.{Mode}
 use Rattle.form.specs.declared.machine.Mode.the-variants.{Start, Closed, WantX, SignX, DigitX, GapX, WantY, SignY, DigitY, GapY}
-use Rattle.values.specs.declared.numbers.Part.the-variants.{X, Y}
+use Rattle.form.specs.declared.machine.Part.{Part}
+use Rattle.form.specs.declared.machine.Part.the-variants.{No, X, Y}
 use Rattle.values.specs.declared.events.Event.{Event}
 use Rattle.values.specs.declared.events.Event.the-variants.{Nothing, Begin, Line, EndOpen, EndClosed, Beyond}
 use Rattle.values.specs.declared.known.Known.{Known}
 use Rattle.form.specs.Form.{Byte, Blanks, Digits, bytes, Number, bare, signed, number, Next, spaced, parted, joined, next, Pair, pairs, Points, points, Command, move, line, close, commands, Text, empty, drawn, text}
-use Rattle.form.specs.Machine.{nextOf}
-use Rattle.values.specs.Numbers.{numberLimit, kept, grownOf, endingOf, goingOf, valueOf}
-use Rattle.values.specs.Known.{settledOf, takenOf}
+use Rattle.form.specs.Machine.{rowOf, nextOf}
+use Rattle.form.proofs.Taken.{Wants, want-x, gap-x, want-y, gap-y}
+use Rattle.values.specs.Numbers.{numberLimit, kept, grownOf, endingOf, valueOf}
+use Rattle.values.specs.Known.{withNumber, withFresh, settledOf, digitTaken, takenOf}
 use Rattle.values.specs.Events.{put, beyondOf, pointOf}
 use Rattle.values.specs.State.{calledBy, inTurn, eventsFrom}
 use Rattle.values.specs.Meaning.{whole, sizeOf, minusOf, floatOf, numberOf, lineEvents, pointEvents, commandEvents, eventsOf}
@@ -29,15 +31,15 @@ use Rattle.values.specs.Meaning.{whole, sizeOf, minusOf, floatOf, number
 pub cap-step : (a d : ℕ) → kept (10 * kept a + d) ≡ kept (10 * a + d)
 cap-step a d = omega arith
 
+zero-cap : (d : ℕ) → kept (10 * 0 + d) ≡ kept d
+zero-cap d = omega arith
+
 pub cap-test : (a : ℕ) → ltb numberLimit (kept a) ≡ ltb numberLimit a
 cap-test a = go (decLe a 32768)
   where
     go : Dec (a ≤ 32768) → ltb numberLimit (kept a) ≡ ltb numberLimit a
     go (yes h) = le-ltb numberLimit (kept a) (omega arith) ∙ sym (le-ltb numberLimit a h)
     go (no h) = lt-ltb numberLimit (kept a) (omega arith) ∙ sym (lt-ltb numberLimit a (omega arith))
-
-abbrev vals : Bool → Bool → ℕ → ℕ → Float → Float → Float → Known
-vals f g z i x fx fy = record { fresh = f; minus = g; size = z; place = i; x = x; «first_x» = fx; «first_y» = fy }
 
 module _ (n : ℕ) where
   -- the state in its two parts
@@ -48,157 +50,97 @@ module _ (n : ℕ) where
   told m v k es = inTurn (calledBy (record { mode = m; known = v }) k) es
 
   abbrev after : Mode → Known → ℕ → Class → ℕ → Known
-  after m v b k place = takenOf (goingOf m) b k place (settledOf (endingOf m k) v)
+  after m v b k place = takenOf (rowOf m .going) b k place (settledOf (endingOf (rowOf m .part) k) v)
 
   -- a byte of a known class
   into : {k : Class} (m : Mode) (v : Known) (b : Byte k) (r : List ℕ)
       → run m v (b .code ∷ r) ≡ told m v k (run (nextOf m k) (after m v (b .code) k (n - length (b .code ∷ r))) r)
   into m v b r = ap (λ k. told m v k (run (nextOf m k) (after m v (b .code) k (n - length (b .code ∷ r))) r)) (b .kind)
 
-  blanks-start : (v : Known) (bs : Blanks) (r : List ℕ) → run Start v (bytes bs r) ≡ run Start v r
-  blanks-start v [] r = refl
-  blanks-start v (b ∷ bs) r = into Start v b (bytes bs r) ∙ blanks-start v bs r
+  -- a number that ends as p calls for this
+  abbrev ended : Part → Known → List Event → List Event
+  ended p v es = put (beyondOf p v) (put (pointOf p v) es)
 
-  blanks-closed : (v : Known) (bs : Blanks) (r : List ℕ) → run Closed v (bytes bs r) ≡ run Closed v r
-  blanks-closed v [] r = refl
-  blanks-closed v (b ∷ bs) r = into Closed v b (bytes bs r) ∙ blanks-closed v bs r
+  blanks : (m : Mode) → rowOf m .part ≡ No → nextOf m Blank ≡ m → (v : Known) (bs : Blanks) (r : List ℕ) → run m v (bytes bs r) ≡ run m v r
+  blanks m none same v [] r = refl
+  blanks m none same v (b ∷ bs) r =
+      into m v b (bytes bs r)
+      ∙ ap (λ p. ended p v (run (nextOf m Blank) (settledOf p v) (bytes bs r))) none
+      ∙ ap (λ x. run x v (bytes bs r)) same
+      ∙ blanks m none same v bs r
 
-  blanks-wx : (v : Known) (bs : Blanks) (r : List ℕ) → run WantX v (bytes bs r) ≡ run WantX v r
-  blanks-wx v [] r = refl
-  blanks-wx v (b ∷ bs) r = into WantX v b (bytes bs r) ∙ blanks-wx v bs r
+  -- what is known once a number is read, r following it
+  abbrev read : Known → Number → List ℕ → Known
+  read v m r = withNumber v (minusOf m) (kept (sizeOf m)) (n - length (number m r))
 
-  blanks-wy : (v : Known) (bs : Blanks) (r : List ℕ) → run WantY v (bytes bs r) ≡ run WantY v r
-  blanks-wy v [] r = refl
-  blanks-wy v (b ∷ bs) r = into WantY v b (bytes bs r) ∙ blanks-wy v bs r
-
-  blanks-gx : (v : Known) (bs : Blanks) (r : List ℕ) → run GapX v (bytes bs r) ≡ run GapX v r
-  blanks-gx v [] r = refl
-  blanks-gx v (b ∷ bs) r = into GapX v b (bytes bs r) ∙ blanks-gx v bs r
-
-  blanks-gy : (v : Known) (bs : Blanks) (r : List ℕ) → run GapY v (bytes bs r) ≡ run GapY v r
-  blanks-gy v [] r = refl
-  blanks-gy v (b ∷ bs) r = into GapY v b (bytes bs r) ∙ blanks-gy v bs r
-
-  zero-cap : (d : ℕ) → kept (10 * 0 + d) ≡ kept d
-  zero-cap d = omega arith
-
-  module _ (f g : Bool) (i : ℕ) (x fx fy : Float) where
-    digits-x : (a : ℕ) (ds : Digits) (r : List ℕ) → run DigitX (vals f g (kept a) i x fx fy) (bytes ds r) ≡ run DigitX (vals f g (kept (whole a ds)) i x fx fy) r
-    digits-x a [] r = refl
-    digits-x a (d ∷ ds) r =
-        into DigitX (vals f g (kept a) i x fx fy) d (bytes ds r)
-        ∙ ap (λ z. run DigitX (vals f g z i x fx fy) (bytes ds r)) (cap-step a (d .code - 48))
-        ∙ digits-x (10 * a + (d .code - 48)) ds r
-
-    digits-y : (a : ℕ) (ds : Digits) (r : List ℕ) → run DigitY (vals f g (kept a) i x fx fy) (bytes ds r) ≡ run DigitY (vals f g (kept (whole a ds)) i x fx fy) r
-    digits-y a [] r = refl
-    digits-y a (d ∷ ds) r =
-        into DigitY (vals f g (kept a) i x fx fy) d (bytes ds r)
-        ∙ ap (λ z. run DigitY (vals f g z i x fx fy) (bytes ds r)) (cap-step a (d .code - 48))
-        ∙ digits-y (10 * a + (d .code - 48)) ds r
+  module _ {m s d : Mode} (w : Wants m s d) (v : Known) where
+    digits : (g : Bool) (i a : ℕ) (ds : Digits) (r : List ℕ) → run d (withNumber v g (kept a) i) (bytes ds r) ≡ run d (withNumber v g (kept (whole a ds)) i) r
+    digits g i a [] r = refl
+    digits g i a (e ∷ ds) r =
+        let u = withNumber v g (kept a) i in
+        into d u e (bytes ds r)
+        ∙ ap (λ t. run (nextOf d Digit) (digitTaken t (e .code) (n - length (e .code ∷ bytes ds r)) u) (bytes ds r)) (w .going)
+        ∙ ap (λ x. run x (withNumber v g (grownOf (kept a) (e .code)) i) (bytes ds r)) (w .again)
+        ∙ ap (λ z. run d (withNumber v g z i) (bytes ds r)) (cap-step a (e .code - 48))
+        ∙ digits g i (10 * a + (e .code - 48)) ds r
 
     -- after the first digit
-    first-x : (d : Byte Digit) (ds : Digits) (r : List ℕ)
-        → run DigitX (vals f g (grownOf 0 (d .code)) i x fx fy) (bytes ds r) ≡ run DigitX (vals f g (kept (whole (d .code - 48) ds)) i x fx fy) r
-    first-x d ds r = ap (λ z. run DigitX (vals f g z i x fx fy) (bytes ds r)) (zero-cap (d .code - 48)) ∙ digits-x (d .code - 48) ds r
+    first-digit : (g : Bool) (i : ℕ) (e : Byte Digit) (ds : Digits) (r : List ℕ)
+        → run d (withNumber v g (grownOf 0 (e .code)) i) (bytes ds r) ≡ run d (withNumber v g (kept (whole (e .code - 48) ds)) i) r
+    first-digit g i e ds r = ap (λ z. run d (withNumber v g z i) (bytes ds r)) (zero-cap (e .code - 48)) ∙ digits g i (e .code - 48) ds r
 
-    first-y : (d : Byte Digit) (ds : Digits) (r : List ℕ)
-        → run DigitY (vals f g (grownOf 0 (d .code)) i x fx fy) (bytes ds r) ≡ run DigitY (vals f g (kept (whole (d .code - 48) ds)) i x fx fy) r
-    first-y d ds r = ap (λ z. run DigitY (vals f g z i x fx fy) (bytes ds r)) (zero-cap (d .code - 48)) ∙ digits-y (d .code - 48) ds r
+    after-sign : (c : Byte Sign) (e : Byte Digit) (ds : Digits) (r : List ℕ)
+        → run s (withNumber v (eqb (c .code) 45) 0 (n - length (number (signed c e ds) r))) (e .code ∷ bytes ds r) ≡ run d (read v (signed c e ds) r) r
+    after-sign c e ds r =
+        let g = eqb (c .code) 45 in
+        let i = n - length (number (signed c e ds) r) in
+        into s (withNumber v g 0 i) e (bytes ds r)
+        ∙ ap (λ t. run (nextOf s Digit) (digitTaken t (e .code) (n - length (e .code ∷ bytes ds r)) (withNumber v g 0 i)) (bytes ds r)) (w .begun)
+        ∙ ap (λ x. run x (withNumber v g (grownOf 0 (e .code)) i) (bytes ds r)) (w .after)
+        ∙ first-digit g i e ds r
 
-  -- the state with a number whole, r following it
-  abbrev read : Bool → Number → List ℕ → Float → Float → Float → Known
-  read f m r x fx fy = vals f (minusOf m) (kept (sizeOf m)) (n - length (number m r)) x fx fy
+    whole-number : (a : Number) (r : List ℕ) → run m v (number a r) ≡ run d (read v a r) r
+    whole-number (bare e ds) r =
+        let i = n - length (number (bare e ds) r) in
+        into m v e (bytes ds r)
+        ∙ ap (λ t. run (nextOf m Digit) (digitTaken t (e .code) i v) (bytes ds r)) (w .fresh)
+        ∙ ap (λ x. run x (withNumber v false (grownOf 0 (e .code)) i) (bytes ds r)) (w .digit)
+        ∙ first-digit false i e ds r
+    whole-number (signed c e ds) r =
+        let i = n - length (number (signed c e ds) r) in
+        into m v c (e .code ∷ bytes ds r)
+        ∙ ap (λ p. ended p v (run (nextOf m Sign) (withNumber (settledOf p v) (eqb (c .code) 45) 0 i) (e .code ∷ bytes ds r))) (w .none)
+        ∙ ap (λ x. run x (withNumber v (eqb (c .code) 45) 0 i) (e .code ∷ bytes ds r)) (w .sign)
+        ∙ after-sign c e ds r
 
-  module _ (f g : Bool) (z i : ℕ) (x fx fy : Float) where
-    abbrev v : Known
-    v = vals f g z i x fx fy
+  -- the next number of a pair, and the next pair
+  next-y : (v : Known) (m : Next) (r : List ℕ) → run DigitX v (next m r) ≡ ended X v (run DigitY (read (settledOf X v) (numberOf m) r) r)
+  next-y v (spaced b bs m) r =
+      let u = settledOf X v in
+      into DigitX v b (bytes bs (number m r)) ∙ ap (λ es. ended X v es) (blanks GapX refl refl u bs (number m r) ∙ whole-number gap-y u m r)
+  next-y v (parted [] c cs m) r =
+      let u = settledOf X v in
+      into DigitX v c (bytes cs (number m r)) ∙ ap (λ es. ended X v es) (blanks WantY refl refl u cs (number m r) ∙ whole-number want-y u m r)
+  next-y v (parted (b ∷ bs) c cs m) r =
+      let u = settledOf X v in
+      into DigitX v b (bytes bs (c .code ∷ bytes cs (number m r)))
+      ∙ ap (λ es. ended X v es)
+      (blanks GapX refl refl u bs (c .code ∷ bytes cs (number m r)) ∙ into GapX u c (bytes cs (number m r)) ∙ blanks WantY refl refl u cs (number m r) ∙ whole-number want-y u m r)
+  next-y v (joined s d ds) r = into DigitX v s (d .code ∷ bytes ds r) ∙ ap (λ es. ended X v es) (after-sign want-y (settledOf X v) s d ds r)
 
-    -- after a sign
-    signed-x : (s : Byte Sign) (d : Byte Digit) (ds : Digits) (r : List ℕ)
-        → run SignX (vals f (eqb (s .code) 45) 0 (n - length (number (signed s d ds) r)) x fx fy) (d .code ∷ bytes ds r) ≡ run DigitX (read f (signed s d ds) r x fx fy) r
-    signed-x s d ds r =
-        let i = n - length (number (signed s d ds) r) in
-        into SignX (vals f (eqb (s .code) 45) 0 i x fx fy) d (bytes ds r) ∙ first-x f (eqb (s .code) 45) i x fx fy d ds r
-
-    signed-y : (s : Byte Sign) (d : Byte Digit) (ds : Digits) (r : List ℕ)
-        → run SignY (vals f (eqb (s .code) 45) 0 (n - length (number (signed s d ds) r)) x fx fy) (d .code ∷ bytes ds r) ≡ run DigitY (read f (signed s d ds) r x fx fy) r
-    signed-y s d ds r =
-        let i = n - length (number (signed s d ds) r) in
-        into SignY (vals f (eqb (s .code) 45) 0 i x fx fy) d (bytes ds r) ∙ first-y f (eqb (s .code) 45) i x fx fy d ds r
-
-    number-wx : (m : Number) (r : List ℕ) → run WantX v (number m r) ≡ run DigitX (read f m r x fx fy) r
-    number-wx (bare d ds) r = into WantX v d (bytes ds r) ∙ first-x f false (n - length (number (bare d ds) r)) x fx fy d ds r
-    number-wx (signed s d ds) r = into WantX v s (d .code ∷ bytes ds r) ∙ signed-x s d ds r
-
-    number-gy : (m : Number) (r : List ℕ) → run GapY v (number m r) ≡ run DigitX (read f m r x fx fy) r
-    number-gy (bare d ds) r = into GapY v d (bytes ds r) ∙ first-x f false (n - length (number (bare d ds) r)) x fx fy d ds r
-    number-gy (signed s d ds) r = into GapY v s (d .code ∷ bytes ds r) ∙ signed-x s d ds r
-
-    number-wy : (m : Number) (r : List ℕ) → run WantY v (number m r) ≡ run DigitY (read f m r x fx fy) r
-    number-wy (bare d ds) r = into WantY v d (bytes ds r) ∙ first-y f false (n - length (number (bare d ds) r)) x fx fy d ds r
-    number-wy (signed s d ds) r = into WantY v s (d .code ∷ bytes ds r) ∙ signed-y s d ds r
-
-    number-gx : (m : Number) (r : List ℕ) → run GapX v (number m r) ≡ run DigitY (read f m r x fx fy) r
-    number-gx (bare d ds) r = into GapX v d (bytes ds r) ∙ first-y f false (n - length (number (bare d ds) r)) x fx fy d ds r
-    number-gx (signed s d ds) r = into GapX v s (d .code ∷ bytes ds r) ∙ signed-y s d ds r
-
-  module _ (f g : Bool) (z i : ℕ) (x fx fy : Float) where
-    abbrev w : Known
-    w = vals f g z i x fx fy
-
-    -- once it is settled, as x or as y, and the run's first point then
-    abbrev settled-x : Known
-    settled-x = settledOf X w
-
-    abbrev settled-y : Known
-    settled-y = settledOf Y w
-
-    abbrev run-x : Float
-    run-x = cond f x fx
-
-    abbrev run-y : Float
-    run-y = cond f (valueOf g z) fy
-
-    -- the next number of a pair
-    abbrev px : List Event → List Event
-    px es = put (beyondOf X w) es
-
-    next-y : (m : Next) (r : List ℕ) → run DigitX w (next m r) ≡ px (run DigitY (read f (numberOf m) r (valueOf g z) fx fy) r)
-    next-y (spaced b bs m) r =
-        into DigitX w b (bytes bs (number m r))
-        ∙ ap (λ es. px es) (blanks-gx settled-x bs (number m r) ∙ number-gx f g z i (valueOf g z) fx fy m r)
-    next-y (parted [] c cs m) r =
-        into DigitX w c (bytes cs (number m r))
-        ∙ ap (λ es. px es) (blanks-wy settled-x cs (number m r) ∙ number-wy f g z i (valueOf g z) fx fy m r)
-    next-y (parted (b ∷ bs) c cs m) r =
-        into DigitX w b (bytes bs (c .code ∷ bytes cs (number m r)))
-        ∙ ap (λ es. px es)
-        (blanks-gx settled-x bs (c .code ∷ bytes cs (number m r)) ∙ into GapX settled-x c (bytes cs (number m r))
-        ∙ blanks-wy settled-x cs (number m r) ∙ number-wy f g z i (valueOf g z) fx fy m r)
-    next-y (joined s d ds) r =
-        into DigitX w s (d .code ∷ bytes ds r)
-        ∙ ap (λ es. px es) (signed-y f g z i (valueOf g z) fx fy s d ds r)
-
-    -- the next pair
-    abbrev py : List Event → List Event
-    py es = put (beyondOf Y w) (put (pointOf Y w) es)
-
-    next-x : (m : Next) (r : List ℕ) → run DigitY w (next m r) ≡ py (run DigitX (read false (numberOf m) r x run-x run-y) r)
-    next-x (spaced b bs m) r =
-        into DigitY w b (bytes bs (number m r))
-        ∙ ap (λ es. py es) (blanks-gy settled-y bs (number m r) ∙ number-gy false g z i x run-x run-y m r)
-    next-x (parted [] c cs m) r =
-        into DigitY w c (bytes cs (number m r))
-        ∙ ap (λ es. py es) (blanks-wx settled-y cs (number m r) ∙ number-wx false g z i x run-x run-y m r)
-    next-x (parted (b ∷ bs) c cs m) r =
-        into DigitY w b (bytes bs (c .code ∷ bytes cs (number m r)))
-        ∙ ap (λ es. py es)
-        (blanks-gy settled-y bs (c .code ∷ bytes cs (number m r)) ∙ into GapY settled-y c (bytes cs (number m r))
-        ∙ blanks-wx settled-y cs (number m r) ∙ number-wx false g z i x run-x run-y m r)
-    next-x (joined s d ds) r =
-        into DigitY w s (d .code ∷ bytes ds r)
-        ∙ ap (λ es. py es) (signed-x false g z i x run-x run-y s d ds r)
+  next-x : (v : Known) (m : Next) (r : List ℕ) → run DigitY v (next m r) ≡ ended Y v (run DigitX (read (settledOf Y v) (numberOf m) r) r)
+  next-x v (spaced b bs m) r =
+      let u = settledOf Y v in
+      into DigitY v b (bytes bs (number m r)) ∙ ap (λ es. ended Y v es) (blanks GapY refl refl u bs (number m r) ∙ whole-number gap-x u m r)
+  next-x v (parted [] c cs m) r =
+      let u = settledOf Y v in
+      into DigitY v c (bytes cs (number m r)) ∙ ap (λ es. ended Y v es) (blanks WantX refl refl u cs (number m r) ∙ whole-number want-x u m r)
+  next-x v (parted (b ∷ bs) c cs m) r =
+      let u = settledOf Y v in
+      into DigitY v b (bytes bs (c .code ∷ bytes cs (number m r)))
+      ∙ ap (λ es. ended Y v es)
+      (blanks GapY refl refl u bs (c .code ∷ bytes cs (number m r)) ∙ into GapY u c (bytes cs (number m r)) ∙ blanks WantX refl refl u cs (number m r) ∙ whole-number want-x u m r)
+  next-x v (joined s d ds) r = into DigitY v s (d .code ∷ bytes ds r) ∙ ap (λ es. ended Y v es) (after-sign want-x (settledOf Y v) s d ds r)
 
   -- two numbers, by what is kept of their sizes and by their sizes
   large : (a b i j : ℕ) (es : List Event)
@@ -208,91 +150,90 @@ module _ (n : ℕ) where
       ap (λ t. put (cond t (Beyond i) Nothing) (put (cond (ltb numberLimit (kept b)) (Beyond j) Nothing) es)) (cap-test a)
       ∙ ap (λ t. put (cond (ltb numberLimit a) (Beyond i) Nothing) (put (cond t (Beyond j) Nothing) es)) (cap-test b)
 
-  -- the commands to come, from each mode in which one may begin
+  -- the commands to come, inside a run or behind one, by what is known
+  abbrev calls : Bool → Known → List Command → List Event
+  calls inside v cs = commandEvents n inside (v .«first_x») (v .«first_y») cs
+
+  -- from each mode in which one may begin
   record Claim (cs : List Command) : Type 0 where
-    gap : (u : Known) → run GapY u (commands cs []) ≡ commandEvents n true (u .«first_x») (u .«first_y») cs
-    closed : (u : Known) → run Closed u (commands cs []) ≡ commandEvents n false (u .«first_x») (u .«first_y») cs
-    digit : (f g : Bool) (z i : ℕ) (x fx fy : Float) → run DigitY (vals f g z i x fx fy) (commands cs []) ≡ py f g z i x fx fy (commandEvents n true (cond f x fx) (cond f (valueOf g z) fy) cs)
+    gap : (v : Known) → run GapY v (commands cs []) ≡ calls true v cs
+    closed : (v : Known) → run Closed v (commands cs []) ≡ calls false v cs
+    digit : (v : Known) → run DigitY v (commands cs []) ≡ ended Y v (calls true (settledOf Y v) cs)
 
   module _ (cs : List Command) (claim : Claim cs) where
-    tail : (bs : Blanks) (f g : Bool) (z i : ℕ) (x fx fy : Float)
-        → run DigitY (vals f g z i x fx fy) (bytes bs (commands cs [])) ≡ py f g z i x fx fy (commandEvents n true (cond f x fx) (cond f (valueOf g z) fy) cs)
-    tail [] f g z i x fx fy = claim .digit f g z i x fx fy
-    tail (b ∷ bs) f g z i x fx fy =
-        into DigitY (vals f g z i x fx fy) b (bytes bs (commands cs []))
-        ∙ ap (λ es. py f g z i x fx fy es) (blanks-gy (settled-y f g z i x fx fy) bs (commands cs []) ∙ claim .gap (settled-y f g z i x fx fy))
+    tail : (bs : Blanks) (v : Known) → run DigitY v (bytes bs (commands cs [])) ≡ ended Y v (calls true (settledOf Y v) cs)
+    tail [] v = claim .digit v
+    tail (b ∷ bs) v =
+        let u = settledOf Y v in
+        into DigitY v b (bytes bs (commands cs [])) ∙ ap (λ es. ended Y v es) (blanks GapY refl refl u bs (commands cs []) ∙ claim .gap u)
 
     module _ (bs : Blanks) where
       abbrev R : List ℕ
       R = bytes bs (commands cs [])
 
-      more : (ps : List Pair) (f g : Bool) (z i : ℕ) (x fx fy : Float)
-          → run DigitY (vals f g z i x fx fy) (pairs ps R) ≡ py f g z i x fx fy (lineEvents n ps R (commandEvents n true (cond f x fx) (cond f (valueOf g z) fy) cs))
-      more [] f g z i x fx fy = tail bs f g z i x fx fy
-      more (p ∷ ps) f g z i x fx fy =
+      more : (ps : List Pair) (v : Known) → run DigitY v (pairs ps R) ≡ ended Y v (lineEvents n ps R (calls true (settledOf Y v) cs))
+      more [] v = tail bs v
+      more (p ∷ ps) v =
           let nx = numberOf (p .x) in
           let ny = numberOf (p .y) in
-          let ix = n - length (number nx (next (p .y) (pairs ps R))) in
-          let iy = n - length (number ny (pairs ps R)) in
-          let FX = cond f x fx in
-          let FY = cond f (valueOf g z) fy in
-          next-x f g z i x fx fy (p .x) (next (p .y) (pairs ps R))
-          ∙ ap (λ es. py f g z i x fx fy es)
-          (next-y false (minusOf nx) (kept (sizeOf nx)) ix x FX FY (p .y) (pairs ps R)
-          ∙ ap (λ es. px false (minusOf nx) (kept (sizeOf nx)) ix x FX FY es) (more ps false (minusOf ny) (kept (sizeOf ny)) iy (floatOf nx) FX FY)
-          ∙ large (sizeOf nx) (sizeOf ny) ix iy (Line (floatOf nx) (floatOf ny) ∷ lineEvents n ps R (commandEvents n true FX FY cs)))
+          let s = next (p .y) (pairs ps R) in
+          let u = read (settledOf Y v) nx s in
+          let w = read (settledOf X u) ny (pairs ps R) in
+          next-x v (p .x) s
+          ∙ ap (λ es. ended Y v es)
+          (next-y u (p .y) (pairs ps R)
+          ∙ ap (λ es. ended X u es) (more ps w)
+          ∙ large (sizeOf nx) (sizeOf ny) (u .place) (w .place) (Line (floatOf nx) (floatOf ny) ∷ lineEvents n ps R (calls true (settledOf Y v) cs)))
 
-      first : (p : Points) (f g : Bool) (z i : ℕ) (x fx fy : Float)
-          → run WantX (vals f g z i x fx fy) (points p R)
-          ≡ pointEvents n (λ x y. cond f (Begin x y) (Line x y)) p R (commandEvents n true (cond f (floatOf (p .x)) fx) (cond f (floatOf (numberOf (p .y))) fy) cs)
-      first p f g z i x fx fy =
+      first : (p : Points) (v : Known)
+          → run WantX v (points p R)
+          ≡ pointEvents n (λ x y. cond (v .fresh) (Begin x y) (Line x y)) p R
+          (commandEvents n true (cond (v .fresh) (floatOf (p .x)) (v .«first_x»)) (cond (v .fresh) (floatOf (numberOf (p .y))) (v .«first_y»)) cs)
+      first p v =
           let nx = p .x in
           let ny = numberOf (p .y) in
-          let s = pairs (p .more) R in
-          let ix = n - length (number nx (next (p .y) s)) in
-          let iy = n - length (number ny s) in
-          blanks-wx (vals f g z i x fx fy) (p .lead) (number nx (next (p .y) s))
-          ∙ number-wx f g z i x fx fy nx (next (p .y) s)
-          ∙ next-y f (minusOf nx) (kept (sizeOf nx)) ix x fx fy (p .y) s
-          ∙ ap (λ es. px f (minusOf nx) (kept (sizeOf nx)) ix x fx fy es) (more (p .more) f (minusOf ny) (kept (sizeOf ny)) iy (floatOf nx) fx fy)
-          ∙ large (sizeOf nx) (sizeOf ny) ix iy (put (cond f (Begin (floatOf nx) (floatOf ny)) (Line (floatOf nx) (floatOf ny))) (lineEvents n (p .more) R (commandEvents n true (cond f (floatOf nx) fx) (cond f (floatOf ny) fy) cs)))
+          let s = next (p .y) (pairs (p .more) R) in
+          let u = read v nx s in
+          let w = read (settledOf X u) ny (pairs (p .more) R) in
+          blanks WantX refl refl v (p .lead) (number nx s)
+          ∙ whole-number want-x v nx s
+          ∙ next-y u (p .y) (pairs (p .more) R)
+          ∙ ap (λ es. ended X u es) (more (p .more) w)
+          ∙ large (sizeOf nx) (sizeOf ny) (u .place) (w .place) (put (pointOf Y w) (lineEvents n (p .more) R (calls true (settledOf Y w) cs)))
 
   claims : (cs : List Command) → Claim cs
-  claims [] = record { gap = λ u. refl; closed = λ u. refl; digit = λ f g z i x fx fy. refl }
+  claims [] = record { gap = λ v. refl; closed = λ v. refl; digit = λ v. refl }
   claims (move k p bs ∷ cs) =
-      let c = claims cs in
-      let R = bytes bs (commands cs []) in
+      let begins = first cs (claims cs) bs p in
+      let r = points p (bytes bs (commands cs [])) in
       record {
-        gap = λ u. into GapY u k (points p R) ∙ ap (λ es. EndOpen ∷ es) (first cs c bs p true (u .minus) (u .size) (u .place) (u .x) (u .«first_x») (u .«first_y»));
-        closed = λ u. into Closed u k (points p R) ∙ first cs c bs p true (u .minus) (u .size) (u .place) (u .x) (u .«first_x») (u .«first_y»);
-        digit = λ f g z i x fx fy. into DigitY (vals f g z i x fx fy) k (points p R) ∙ ap (λ es. py f g z i x fx fy (EndOpen ∷ es)) (first cs c bs p true g z i x (cond f x fx) (cond f (valueOf g z) fy));
+        gap = λ v. into GapY v k r ∙ ap (λ es. EndOpen ∷ es) (begins (withFresh v true));
+        closed = λ v. into Closed v k r ∙ begins (withFresh v true);
+        digit = λ v. into DigitY v k r ∙ ap (λ es. ended Y v (EndOpen ∷ es)) (begins (withFresh (settledOf Y v) true));
       }
   claims (line k p bs ∷ cs) =
-      let c = claims cs in
-      let R = bytes bs (commands cs []) in
+      let goes = first cs (claims cs) bs p in
+      let r = points p (bytes bs (commands cs [])) in
       record {
-        gap = λ u. into GapY u k (points p R) ∙ first cs c bs p false (u .minus) (u .size) (u .place) (u .x) (u .«first_x») (u .«first_y»);
-        closed = λ u. into Closed u k (points p R) ∙ ap (λ es. Begin (u .«first_x») (u .«first_y») ∷ es) (first cs c bs p false (u .minus) (u .size) (u .place) (u .x) (u .«first_x») (u .«first_y»));
-        digit = λ f g z i x fx fy. into DigitY (vals f g z i x fx fy) k (points p R) ∙ ap (λ es. py f g z i x fx fy es) (first cs c bs p false g z i x (cond f x fx) (cond f (valueOf g z) fy));
+        gap = λ v. into GapY v k r ∙ goes (withFresh v false);
+        closed = λ v. into Closed v k r ∙ ap (λ es. Begin (v .«first_x») (v .«first_y») ∷ es) (goes (withFresh v false));
+        digit = λ v. into DigitY v k r ∙ ap (λ es. ended Y v es) (goes (withFresh (settledOf Y v) false));
       }
   claims (close k bs ∷ cs) =
-      let c = claims cs in
       let r = commands cs [] in
+      let rests : (v : Known) → run Closed v (bytes bs r) ≡ calls false v cs = λ v. blanks Closed refl refl v bs r ∙ claims cs .closed v in
       record {
-        gap = λ u. into GapY u k (bytes bs r) ∙ ap (λ es. EndClosed ∷ es) (blanks-closed u bs r ∙ c .closed u);
-        closed = λ u. into Closed u k (bytes bs r) ∙ blanks-closed u bs r ∙ c .closed u;
-        digit = λ f g z i x fx fy. into DigitY (vals f g z i x fx fy) k (bytes bs r)
-            ∙ ap (λ es. py f g z i x fx fy (EndClosed ∷ es)) (blanks-closed (settled-y f g z i x fx fy) bs r ∙ c .closed (settled-y f g z i x fx fy));
+        gap = λ v. into GapY v k (bytes bs r) ∙ ap (λ es. EndClosed ∷ es) (rests v);
+        closed = λ v. into Closed v k (bytes bs r) ∙ rests v;
+        digit = λ v. into DigitY v k (bytes bs r) ∙ ap (λ es. ended Y v (EndClosed ∷ es)) (rests (settledOf Y v));
       }
 
   -- the machine calls for what the text means
-  pub means : (t : Text) (u : Known) → eventsFrom n (record { mode = Start; known = u }) (text t) ≡ eventsOf n t
-  means (empty bs) u = blanks-start u bs []
-  means (drawn bs m p cs ds) u =
-      let r = bytes cs (commands ds []) in
-      blanks-start u bs (m .code ∷ points p r)
-      ∙ into Start u m (points p r)
-      ∙ first ds (claims ds) cs p true (u .minus) (u .size) (u .place) (u .x) (u .«first_x») (u .«first_y»)
+  pub means : (t : Text) (v : Known) → eventsFrom n (record { mode = Start; known = v }) (text t) ≡ eventsOf n t
+  means (empty bs) v = blanks Start refl refl v bs []
+  means (drawn bs m p cs ds) v =
+      let r = points p (bytes cs (commands ds [])) in
+      blanks Start refl refl v bs (m .code ∷ r) ∙ into Start v m r ∙ first ds (claims ds) cs p (withFresh v true)
 
 -- a number that is not too large has its own float
 pub exact : (m : Number) → sizeOf m ≤ 32768 → floatOf m ≡ valueOf (minusOf m) (sizeOf m)

@@ -1,16 +1,14 @@
 -- What a path text calls for, byte by byte. Assumes nothing.
-use mathlib.Core.Bool.{Bool, true, false, cond}
+use mathlib.Core.Bool.{Bool, cond}
 use mathlib.Core.List.{List, _∷_}
 use lib.Dec.{ltb}
 use Rattle.form.specs.declared.classes.Class.{Class}
 use Rattle.form.specs.declared.classes.Class.the-variants.{Blank, Comma, Sign, Digit, MoveTo, LineTo, ClosePath, Other}
-use Rattle.form.specs.declared.machine.Mode.{Mode}
-use Rattle.form.specs.declared.machine.Mode.the-variants.{Start, Closed, WantX, SignX, DigitX, GapX, WantY, SignY, DigitY, GapY, Lost}
+use Rattle.form.specs.declared.machine.Part.{Part}
+use Rattle.form.specs.declared.machine.Part.the-variants.{No, X, Y}
 use Rattle.values.specs.declared.events.Event.{Event}
 use Rattle.values.specs.declared.events.Event.the-variants.{Nothing, Begin, Line, EndOpen, EndClosed, Beyond}
 use Rattle.values.specs.declared.known.Known.{Known}
-use Rattle.values.specs.declared.numbers.Part.{Part}
-use Rattle.values.specs.declared.numbers.Part.the-variants.{No, X, Y}
 use Rattle.values.specs.Numbers.{numberLimit, valueOf}
 
 -- an event before others
@@ -21,20 +19,6 @@ put (Line x y) es = Line x y ∷ es
 put EndOpen es = EndOpen ∷ es
 put EndClosed es = EndClosed ∷ es
 put (Beyond i) es = Beyond i ∷ es
-
--- whether a run is open
-abbrev pub isInside : Mode → Bool
-isInside Start = false
-isInside Closed = false
-isInside WantX = false
-isInside SignX = false
-isInside DigitX = false
-isInside GapX = false
-isInside WantY = false
-isInside SignY = false
-isInside DigitY = true
-isInside GapY = true
-isInside Lost = false
 
 -- "a number beyond 32,768 in size", at its "first byte"
 abbrev pub checkedOf : Known → Event

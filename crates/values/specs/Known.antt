@@ -5,9 +5,9 @@ use lib.Dec.{eqb}
 use lib.Ieee.{Float, ofBits, binary32}
 use Rattle.form.specs.declared.classes.Class.{Class}
 use Rattle.form.specs.declared.classes.Class.the-variants.{Blank, Comma, Sign, Digit, MoveTo, LineTo, ClosePath, Other}
+use Rattle.form.specs.declared.machine.Part.{Part}
+use Rattle.form.specs.declared.machine.Part.the-variants.{No, X, Y}
 use Rattle.values.specs.declared.known.Known.{Known}
-use Rattle.values.specs.declared.numbers.Part.{Part}
-use Rattle.values.specs.declared.numbers.Part.the-variants.{No, X, Y}
 use Rattle.values.specs.Numbers.{grownOf, valueOf}
 
 abbrev pub nothingKnown : Known

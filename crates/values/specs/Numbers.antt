@@ -1,15 +1,13 @@
 -- The numbers of a path text, byte by byte. Assumes nothing.
 use Prim.Native.Nat.{ℕ, _+_, _-_, _*_, min}
-use mathlib.Core.Bool.{Bool, true, false, cond, _&&_}
+use mathlib.Core.Bool.{Bool, cond, _&&_}
 use lib.Dec.{ltb}
 use lib.IntN.{pos}
 use lib.Ieee.{Float, neg, ofInt, binary32}
 use Rattle.form.specs.declared.classes.Class.{Class}
 use Rattle.form.specs.declared.classes.Class.the-variants.{Blank, Comma, Sign, Digit, MoveTo, LineTo, ClosePath, Other}
-use Rattle.form.specs.declared.machine.Mode.{Mode}
-use Rattle.form.specs.declared.machine.Mode.the-variants.{Start, Closed, WantX, SignX, DigitX, GapX, WantY, SignY, DigitY, GapY, Lost}
-use Rattle.values.specs.declared.numbers.Part.{Part}
-use Rattle.values.specs.declared.numbers.Part.the-variants.{No, X, Y}
+use Rattle.form.specs.declared.machine.Part.{Part}
+use Rattle.form.specs.declared.machine.Part.the-variants.{No}
 
 -- "a number beyond 32,768 in size": larger than this
 abbrev pub numberLimit : ℕ
@@ -27,41 +25,13 @@ grownOf size b = kept (10 * size + (b - 48))
 unfoldable pub valueOf : Bool → ℕ → Float
 valueOf minus n = cond (minus && ltb 0 n) (neg (ofInt binary32 (pos n))) (ofInt binary32 (pos n))
 
--- the number of a pair in which a text stands
-abbrev pub partOf : Mode → Part
-partOf Start = No
-partOf Closed = No
-partOf WantX = No
-partOf SignX = No
-partOf DigitX = X
-partOf GapX = No
-partOf WantY = No
-partOf SignY = No
-partOf DigitY = Y
-partOf GapY = No
-partOf Lost = No
-
 -- the number that ends before a byte
-abbrev pub endingOf : Mode → Class → Part
-endingOf m Blank = partOf m
-endingOf m Comma = partOf m
-endingOf m Sign = partOf m
-endingOf m Digit = No
-endingOf m MoveTo = partOf m
-endingOf m LineTo = partOf m
-endingOf m ClosePath = partOf m
-endingOf m Other = partOf m
-
--- whether a digit goes on with a number that has begun
-abbrev pub goingOf : Mode → Bool
-goingOf Start = false
-goingOf Closed = false
-goingOf WantX = false
-goingOf SignX = true
-goingOf DigitX = true
-goingOf GapX = false
-goingOf WantY = false
-goingOf SignY = true
-goingOf DigitY = true
-goingOf GapY = false
-goingOf Lost = false
+abbrev pub endingOf : Part → Class → Part
+endingOf p Blank = p
+endingOf p Comma = p
+endingOf p Sign = p
+endingOf p Digit = No
+endingOf p MoveTo = p
+endingOf p LineTo = p
+endingOf p ClosePath = p
+endingOf p Other = p

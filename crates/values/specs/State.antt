@@ -5,30 +5,40 @@ use lib.ListN.{length}
 use Rattle.form.specs.declared.classes.Class.{Class}
 use Rattle.form.specs.declared.machine.Mode.the-variants.{Start}
 use Rattle.form.specs.Bytes.{classOf}
-use Rattle.form.specs.Machine.{nextOf}
+use Rattle.form.specs.Machine.{rowOf, nextOf}
 use Rattle.values.specs.declared.events.Event.{Event}
 use Rattle.values.specs.declared.state.Called.{Called}
 use Rattle.values.specs.declared.state.State.{State}
-use Rattle.values.specs.Events.{put, isInside, beyondOf, pointOf, letterOf, endOf}
+use Rattle.values.specs.Events.{put, beyondOf, pointOf, letterOf, endOf}
 use Rattle.values.specs.Known.{nothingKnown, settledOf, takenOf}
-use Rattle.values.specs.Numbers.{partOf, endingOf, goingOf}
+use Rattle.values.specs.Numbers.{endingOf}
 
 abbrev pub started : State
 started = record { mode = Start; known = nothingKnown }
 
 -- what a byte of a class calls for, and what the end of the text does
 abbrev pub calledBy : State → Class → Called
-calledBy s k = record { number = beyondOf (endingOf (s .mode) k) (s .known); point = pointOf (endingOf (s .mode) k) (s .known); letter = letterOf (isInside (s .mode)) (s .known) k }
+calledBy s k =
+    record {
+      number = beyondOf (endingOf (rowOf (s .mode) .part) k) (s .known);
+      point = pointOf (endingOf (rowOf (s .mode) .part) k) (s .known);
+      letter = letterOf (rowOf (s .mode) .stand .inside) (s .known) k;
+    }
 
 abbrev pub calledOf : State → ℕ → Called
 calledOf s b = calledBy s (classOf b)
 
 abbrev pub endedOf : State → Called
-endedOf s = record { number = beyondOf (partOf (s .mode)) (s .known); point = pointOf (partOf (s .mode)) (s .known); letter = endOf (isInside (s .mode)) }
+endedOf s =
+    record {
+      number = beyondOf (rowOf (s .mode) .part) (s .known);
+      point = pointOf (rowOf (s .mode) .part) (s .known);
+      letter = endOf (rowOf (s .mode) .stand .inside);
+    }
 
 -- the state after a byte b of a class, at a place
 abbrev pub stepBy : State → ℕ → Class → ℕ → State
-stepBy s b k place = record { mode = nextOf (s .mode) k; known = takenOf (goingOf (s .mode)) b k place (settledOf (endingOf (s .mode) k) (s .known)) }
+stepBy s b k place = record { mode = nextOf (s .mode) k; known = takenOf (rowOf (s .mode) .going) b k place (settledOf (endingOf (rowOf (s .mode) .part) k) (s .known)) }
 
 abbrev pub stepOf : State → ℕ → ℕ → State
 stepOf s b place = stepBy s b (classOf b) place

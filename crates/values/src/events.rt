@@ -1,12 +1,11 @@
 // What a path text calls for.
 use crate::known::Known;
 use crate::numbers::NUMBER_LIMIT;
-use crate::numbers::Part;
 use crate::numbers::value;
 use form::classes::Class;
-use form::machine::Mode;
+use form::machine::Part;
 ghost use mathlib.Core.Path.{_≡_};
-ghost use Rattle.values.specs.Events.{isInside, checkedOf, beyondOf, pointOf, endOf, closeOf, goOnOf, letterOf};
+ghost use Rattle.values.specs.Events.{checkedOf, beyondOf, pointOf, endOf, closeOf, goOnOf, letterOf};
 
 pub enum Event {
     Nothing,
@@ -18,25 +17,6 @@ pub enum Event {
     EndClosed,
     // A number beyond the limit, at the place of its first byte.
     Beyond(usize),
-}
-
-// Whether a run is open.
-pub(crate) fn is_inside(m: Mode) -> bool
-    ensures { λ r. ⌜ r ≡ isInside m ⌝ }
-{
-    match m {
-        Mode::Start => false,
-        Mode::Closed => false,
-        Mode::WantX => false,
-        Mode::SignX => false,
-        Mode::DigitX => false,
-        Mode::GapX => false,
-        Mode::WantY => false,
-        Mode::SignY => false,
-        Mode::DigitY => true,
-        Mode::GapY => true,
-        Mode::Lost => false,
-    }
 }
 
 // By a number that ends.

@@ -1,8 +1,8 @@
 // What is known of a path text beside its mode: the number, the pair and the run that were read last.
-use crate::numbers::Part;
 use crate::numbers::grown;
 use crate::numbers::value;
 use form::classes::Class;
+use form::machine::Part;
 ghost use mathlib.Core.Path.{_≡_};
 ghost use mathlib.Core.Bool.{cond};
 ghost use Prim.Native.Nat.{_≤_};

@@ -2,7 +2,6 @@
 use crate::events::Event;
 use crate::events::beyond;
 use crate::events::end;
-use crate::events::is_inside;
 use crate::events::letter;
 use crate::events::point;
 use crate::known::Known;
@@ -10,11 +9,10 @@ use crate::known::nothing_known;
 use crate::known::settled;
 use crate::known::taken;
 use crate::numbers::ending;
-use crate::numbers::is_going;
-use crate::numbers::part_of;
 use form::classes::class_of;
 use form::machine::Mode;
-use form::machine::next;
+use form::machine::after;
+use form::machine::row_of;
 ghost use mathlib.Core.Path.{_≡_};
 ghost use Rattle.values.specs.State.{started, calledOf, endedOf, stepOf};
 
@@ -42,17 +40,19 @@ pub fn start() -> State
     }
 }
 
+// A column of the mode's row is looked up where it is used: a row that is kept for all of them is slower.
 pub fn calls_for(s: State, b: u8) -> Called
     ensures { λ r. ⌜ r ≡ calledOf s b ⌝ }
 {
     let m = s.mode;
     let v = s.known;
     let k = class_of(b);
-    let part = ending(m, k);
+    let p = row_of(m).part;
+    let part = ending(p, k);
     Called {
         number: beyond(part, v),
         point: point(part, v),
-        letter: letter(is_inside(m), v, k),
+        letter: letter(row_of(m).stand.inside, v, k),
     }
 }
 
@@ -61,11 +61,11 @@ pub fn end_calls_for(s: State) -> Called
 {
     let m = s.mode;
     let v = s.known;
-    let part = part_of(m);
+    let part = row_of(m).part;
     Called {
         number: beyond(part, v),
         point: point(part, v),
-        letter: end(is_inside(m)),
+        letter: end(row_of(m).stand.inside),
     }
 }
 
@@ -76,9 +76,10 @@ pub fn step(s: State, b: u8, place: usize) -> State
     let m = s.mode;
     let v = s.known;
     let k = class_of(b);
-    let number = settled(ending(m, k), v);
+    let p = row_of(m).part;
+    let number = settled(ending(p, k), v);
     State {
-        mode: next(m, k),
-        known: taken(is_going(m), b, k, place, number),
+        mode: after(row_of(m), k),
+        known: taken(row_of(m).going, b, k, place, number),
     }
 }

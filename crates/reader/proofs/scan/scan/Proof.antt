@@ -4,6 +4,7 @@ use Prim.Native.Nat.{_-_}
 use mathlib.Core.Path.{sym, ap, _∙_}
 use native.Mathlib.Omega.{arith}
 use lib.ListN.{length}
+use Rattle.form.specs.declared.machine.Row.{Row}
 use Rattle.form.specs.Machine.{isLost}
 use Rattle.values.specs.declared.state.State.{State}
 use Rattle.reader.proofs.Scanning.{Scanning, scanning-none, scanning-turn, scanning-lost, scanning-formed, scanning-short}
@@ -33,16 +34,16 @@ shared-slice-read-b c = search needs
 step-requires : tie.Need-step-requires Inv-loop μ-loop
 step-requires c κs = search needs
 
-is-lost-requires : tie.Need-is-lost-requires Inv-loop μ-loop
-is-lost-requires c κs = search needs
+row-of-requires : tie.Need-row-of-requires Inv-loop μ-loop
+row-of-requires c κs = search needs
 
 returns : tie.Need-returns Inv-loop μ-loop
 returns c =
-    let at-is-lost = c .before in
-    let at-step = at-is-lost .before in
+    let at-row-of = c .before in
+    let at-step = at-row-of .before in
     let at-loop-test = at-step .before .before in
     let at-loop = at-loop-test .before in
-    let lost = ap (λ (x : State). isLost (x .mode)) (sym (at-step .step .ensures)) ∙ sym (at-is-lost .is-lost .ensures) ∙ c .if1 .taken in
+    let lost = ap (λ (x : State). isLost (x .mode)) (sym (at-step .step .ensures)) ∙ ap (λ (x : Row). x .stand .lost) (sym (at-row-of .row-of .ensures)) ∙ c .if1 .taken in
     scanning-lost _ _ _ (at-loop-test .loop-test .taken) _ (at-loop .loop .inv) lost
 
 calls-for-requires : tie.Need-calls-for-requires Inv-loop μ-loop
@@ -68,15 +69,15 @@ loop-again : tie.Need-loop-again Inv-loop μ-loop
 loop-again c =
     let at-calls-for = c .before in
     let at-if1 = at-calls-for .before in
-    let at-is-lost = at-if1 .before in
-    let at-step = at-is-lost .before in
+    let at-row-of = at-if1 .before in
+    let at-step = at-row-of .before in
     let at-loop-test = at-step .before .before in
     let at-loop = at-loop-test .before in
-    let on = ap (λ (x : State). isLost (x .mode)) (sym (at-step .step .ensures)) ∙ sym (at-is-lost .is-lost .ensures) ∙ at-if1 .if1 .left in
+    let on = ap (λ (x : State). isLost (x .mode)) (sym (at-step .step .ensures)) ∙ ap (λ (x : Row). x .stand .lost) (sym (at-row-of .row-of .ensures)) ∙ at-if1 .if1 .left in
     rw (c .added .ensures, at-calls-for .calls-for .ensures, at-step .step .ensures) (scanning-turn _ _ _ (at-loop-test .loop-test .taken) _ (at-loop .loop .inv) on)
 
-may-end-requires : tie.Need-may-end-requires Inv-loop μ-loop
-may-end-requires c κs = search needs
+row-of-requires-2 : tie.Need-row-of-requires-2 Inv-loop μ-loop
+row-of-requires-2 c κs = search needs
 
 end-calls-for-requires : tie.Need-end-calls-for-requires Inv-loop μ-loop
 end-calls-for-requires c κs = search needs
@@ -91,17 +92,17 @@ returns-2 : tie.Need-returns-2 Inv-loop μ-loop
 returns-2 c =
     let at-end-calls-for = c .before in
     let at-if2 = at-end-calls-for .before in
-    let at-may-end = at-if2 .before in
-    let at-loop-test = at-may-end .before in
+    let at-row-of = at-if2 .before in
+    let at-loop-test = at-row-of .before in
     let at-loop = at-loop-test .before in
-    rw (c .added2 .ensures, at-end-calls-for .end-calls-for .ensures) (scanning-formed _ _ _ _ (at-loop-test .loop-test .left) (at-loop .loop .inv) (sym (at-may-end .may-end .ensures) ∙ at-if2 .if2 .taken))
+    rw (c .added2 .ensures, at-end-calls-for .end-calls-for .ensures) (scanning-formed _ _ _ _ (at-loop-test .loop-test .left) (at-loop .loop .inv) (ap (λ (x : Row). x .stand .ends) (sym (at-row-of .row-of2 .ensures)) ∙ at-if2 .if2 .taken))
 
 returns-3 : tie.Need-returns-3 Inv-loop μ-loop
 returns-3 c =
-    let at-may-end = c .before in
-    let at-loop-test = at-may-end .before in
+    let at-row-of = c .before in
+    let at-loop-test = at-row-of .before in
     let at-loop = at-loop-test .before in
-    scanning-short _ _ _ _ (at-loop-test .loop-test .left) (at-loop .loop .inv) (sym (at-may-end .may-end .ensures) ∙ c .if2 .left)
+    scanning-short _ _ _ _ (at-loop-test .loop-test .left) (at-loop .loop .inv) (ap (λ (x : Row). x .stand .ends) (sym (at-row-of .row-of2 .ensures)) ∙ c .if2 .left)
 
 pub scan-spec : {M : Type 1} → statement M
 scan-spec =
@@ -114,14 +115,14 @@ scan-spec =
     loop-holds
     shared-slice-read-b
     step-requires
-    is-lost-requires
+    row-of-requires
     returns
     calls-for-requires
     added-requires
     add-i
     loop-less
     loop-again
-    may-end-requires
+    row-of-requires-2
     end-calls-for-requires
     added-requires-2
     returns-2
