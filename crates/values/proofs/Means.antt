@@ -9,11 +9,10 @@ use native.Mathlib.Decide.{decLe}
 use lib.Dec.{ltb, eqb}
 use borrow.Author.Tests.{lt-ltb, le-ltb}
 use lib.ListN.{length}
-use lib.Ieee.{Float}
 use Rattle.form.specs.declared.classes.Class.{Class}
 use Rattle.form.specs.declared.classes.Class.the-variants.{Blank, Sign, Digit}
 use Rattle.form.specs.declared.machine.Mode.{Mode}
-use Rattle.form.specs.declared.machine.Mode.the-variants.{Start, Closed, WantX, SignX, DigitX, GapX, WantY, SignY, DigitY, GapY}
+use Rattle.form.specs.declared.machine.Mode.the-variants.{Start, Closed, WantX, DigitY, GapY}
 use Rattle.form.specs.declared.machine.Part.{Part}
 use Rattle.form.specs.declared.machine.Part.the-variants.{No, X, Y}
 use Rattle.values.specs.declared.events.Event.{Event}
@@ -21,7 +20,7 @@ use Rattle.values.specs.declared.events.Event.the-variants.{Nothing, Beg
 use Rattle.values.specs.declared.known.Known.{Known}
 use Rattle.form.specs.Form.{Byte, Blanks, Digits, bytes, Number, bare, signed, number, Next, spaced, parted, joined, next, Pair, pairs, Points, points, Command, move, line, close, commands, Text, empty, drawn, text}
 use Rattle.form.specs.Machine.{rowOf, nextOf}
-use Rattle.form.proofs.Taken.{Wants, want-x, gap-x, want-y, gap-y}
+use Rattle.form.proofs.Taken.{Wants, Follows, after-x, after-y}
 use Rattle.values.specs.Numbers.{numberLimit, kept, grownOf, endingOf, valueOf}
 use Rattle.values.specs.Known.{withNumber, withFresh, settledOf, digitTaken, takenOf}
 use Rattle.values.specs.Events.{put, beyondOf, pointOf}
@@ -52,22 +51,24 @@ module _ (n : ℕ) where
   abbrev after : Mode → Known → ℕ → Class → ℕ → Known
   after m v b k place = takenOf (rowOf m .going) b k place (settledOf (endingOf (rowOf m .part) k) v)
 
-  -- a byte of a known class
-  into : {k : Class} (m : Mode) (v : Known) (b : Byte k) (r : List ℕ)
-      → run m v (b .code ∷ r) ≡ told m v k (run (nextOf m k) (after m v (b .code) k (n - length (b .code ∷ r))) r)
-  into m v b r = ap (λ k. told m v k (run (nextOf m k) (after m v (b .code) k (n - length (b .code ∷ r))) r)) (b .kind)
+  -- a byte of a known class, which leads to the mode m′
+  into : {k : Class} (m : Mode) {m′ : Mode} → nextOf m k ≡ m′ → (v : Known) (b : Byte k) (r : List ℕ)
+      → run m v (b .code ∷ r) ≡ told m v k (run m′ (after m v (b .code) k (n - length (b .code ∷ r))) r)
+  into {k} m e v b r =
+      ap (λ k. told m v k (run (nextOf m k) (after m v (b .code) k (n - length (b .code ∷ r))) r)) (b .kind)
+      ∙ ap (λ x. told m v k (run x (after m v (b .code) k (n - length (b .code ∷ r))) r)) e
 
   -- a number that ends as p calls for this
   abbrev ended : Part → Known → List Event → List Event
   ended p v es = put (beyondOf p v) (put (pointOf p v) es)
 
+  -- which is nothing where none does
+  quiet : (m : Mode) → rowOf m .part ≡ No → (f : Known → List Event) (v : Known) → ended (rowOf m .part) v (f (settledOf (rowOf m .part) v)) ≡ f v
+  quiet m none f v = ap (λ p. ended p v (f (settledOf p v))) none
+
   blanks : (m : Mode) → rowOf m .part ≡ No → nextOf m Blank ≡ m → (v : Known) (bs : Blanks) (r : List ℕ) → run m v (bytes bs r) ≡ run m v r
   blanks m none same v [] r = refl
-  blanks m none same v (b ∷ bs) r =
-      into m v b (bytes bs r)
-      ∙ ap (λ p. ended p v (run (nextOf m Blank) (settledOf p v) (bytes bs r))) none
-      ∙ ap (λ x. run x v (bytes bs r)) same
-      ∙ blanks m none same v bs r
+  blanks m none same v (b ∷ bs) r = into m same v b (bytes bs r) ∙ quiet m none (λ u. run m u (bytes bs r)) v ∙ blanks m none same v bs r
 
   -- what is known once a number is read, r following it
   abbrev read : Known → Number → List ℕ → Known
@@ -78,9 +79,8 @@ module _ (n : ℕ) where
     digits g i a [] r = refl
     digits g i a (e ∷ ds) r =
         let u = withNumber v g (kept a) i in
-        into d u e (bytes ds r)
-        ∙ ap (λ t. run (nextOf d Digit) (digitTaken t (e .code) (n - length (e .code ∷ bytes ds r)) u) (bytes ds r)) (w .going)
-        ∙ ap (λ x. run x (withNumber v g (grownOf (kept a) (e .code)) i) (bytes ds r)) (w .again)
+        into d (w .again) u e (bytes ds r)
+        ∙ ap (λ t. run d (digitTaken t (e .code) (n - length (e .code ∷ bytes ds r)) u) (bytes ds r)) (w .going)
         ∙ ap (λ z. run d (withNumber v g z i) (bytes ds r)) (cap-step a (e .code - 48))
         ∙ digits g i (10 * a + (e .code - 48)) ds r
 
@@ -94,53 +94,46 @@ module _ (n : ℕ) where
     after-sign c e ds r =
         let g = eqb (c .code) 45 in
         let i = n - length (number (signed c e ds) r) in
-        into s (withNumber v g 0 i) e (bytes ds r)
-        ∙ ap (λ t. run (nextOf s Digit) (digitTaken t (e .code) (n - length (e .code ∷ bytes ds r)) (withNumber v g 0 i)) (bytes ds r)) (w .begun)
-        ∙ ap (λ x. run x (withNumber v g (grownOf 0 (e .code)) i) (bytes ds r)) (w .after)
+        into s (w .after) (withNumber v g 0 i) e (bytes ds r)
+        ∙ ap (λ t. run d (digitTaken t (e .code) (n - length (e .code ∷ bytes ds r)) (withNumber v g 0 i)) (bytes ds r)) (w .begun)
         ∙ first-digit g i e ds r
 
     whole-number : (a : Number) (r : List ℕ) → run m v (number a r) ≡ run d (read v a r) r
     whole-number (bare e ds) r =
         let i = n - length (number (bare e ds) r) in
-        into m v e (bytes ds r)
-        ∙ ap (λ t. run (nextOf m Digit) (digitTaken t (e .code) i v) (bytes ds r)) (w .fresh)
-        ∙ ap (λ x. run x (withNumber v false (grownOf 0 (e .code)) i) (bytes ds r)) (w .digit)
+        into m (w .digit) v e (bytes ds r)
+        ∙ ap (λ t. run d (digitTaken t (e .code) i v) (bytes ds r)) (w .fresh)
         ∙ first-digit false i e ds r
     whole-number (signed c e ds) r =
         let i = n - length (number (signed c e ds) r) in
-        into m v c (e .code ∷ bytes ds r)
-        ∙ ap (λ p. ended p v (run (nextOf m Sign) (withNumber (settledOf p v) (eqb (c .code) 45) 0 i) (e .code ∷ bytes ds r))) (w .none)
-        ∙ ap (λ x. run x (withNumber v (eqb (c .code) 45) 0 i) (e .code ∷ bytes ds r)) (w .sign)
+        into m (w .sign) v c (e .code ∷ bytes ds r)
+        ∙ quiet m (w .none) (λ u. run s (withNumber u (eqb (c .code) 45) 0 i) (e .code ∷ bytes ds r)) v
         ∙ after-sign c e ds r
 
-  -- the next number of a pair, and the next pair
-  next-y : (v : Known) (m : Next) (r : List ℕ) → run DigitX v (next m r) ≡ ended X v (run DigitY (read (settledOf X v) (numberOf m) r) r)
-  next-y v (spaced b bs m) r =
-      let u = settledOf X v in
-      into DigitX v b (bytes bs (number m r)) ∙ ap (λ es. ended X v es) (blanks GapX refl refl u bs (number m r) ∙ whole-number gap-y u m r)
-  next-y v (parted [] c cs m) r =
-      let u = settledOf X v in
-      into DigitX v c (bytes cs (number m r)) ∙ ap (λ es. ended X v es) (blanks WantY refl refl u cs (number m r) ∙ whole-number want-y u m r)
-  next-y v (parted (b ∷ bs) c cs m) r =
-      let u = settledOf X v in
-      into DigitX v b (bytes bs (c .code ∷ bytes cs (number m r)))
-      ∙ ap (λ es. ended X v es)
-      (blanks GapX refl refl u bs (c .code ∷ bytes cs (number m r)) ∙ into GapX u c (bytes cs (number m r)) ∙ blanks WantY refl refl u cs (number m r) ∙ whole-number want-y u m r)
-  next-y v (joined s d ds) r = into DigitX v s (d .code ∷ bytes ds r) ∙ ap (λ es. ended X v es) (after-sign want-y (settledOf X v) s d ds r)
+  -- the number after one that ends in the mode d
+  module _ {d b c s e : Mode} (f : Follows d b c s e) (v : Known) where
+    abbrev u : Known
+    u = settledOf (rowOf d .part) v
 
-  next-x : (v : Known) (m : Next) (r : List ℕ) → run DigitY v (next m r) ≡ ended Y v (run DigitX (read (settledOf Y v) (numberOf m) r) r)
-  next-x v (spaced b bs m) r =
-      let u = settledOf Y v in
-      into DigitY v b (bytes bs (number m r)) ∙ ap (λ es. ended Y v es) (blanks GapY refl refl u bs (number m r) ∙ whole-number gap-x u m r)
-  next-x v (parted [] c cs m) r =
-      let u = settledOf Y v in
-      into DigitY v c (bytes cs (number m r)) ∙ ap (λ es. ended Y v es) (blanks WantX refl refl u cs (number m r) ∙ whole-number want-x u m r)
-  next-x v (parted (b ∷ bs) c cs m) r =
-      let u = settledOf Y v in
-      into DigitY v b (bytes bs (c .code ∷ bytes cs (number m r)))
-      ∙ ap (λ es. ended Y v es)
-      (blanks GapY refl refl u bs (c .code ∷ bytes cs (number m r)) ∙ into GapY u c (bytes cs (number m r)) ∙ blanks WantX refl refl u cs (number m r) ∙ whole-number want-x u m r)
-  next-x v (joined s d ds) r = into DigitY v s (d .code ∷ bytes ds r) ∙ ap (λ es. ended Y v es) (after-sign want-x (settledOf Y v) s d ds r)
+    abbrev passed : List Event → List Event
+    passed es = ended (rowOf d .part) v es
+
+    wanted : (cs : Blanks) (a : Number) (r : List ℕ) → run c u (bytes cs (number a r)) ≡ run e (read u a r) r
+    wanted cs a r = blanks c (f .want .none) (f .comma-blanks) u cs (number a r) ∙ whole-number (f .want) u a r
+
+    next-number : (a : Next) (r : List ℕ) → run d v (next a r) ≡ passed (run e (read u (numberOf a) r) r)
+    next-number (spaced k ks a) r =
+        into d (f .blank) v k (bytes ks (number a r))
+        ∙ ap (λ es. passed es) (blanks b (f .gap .none) (f .blanks) u ks (number a r) ∙ whole-number (f .gap) u a r)
+    next-number (parted [] k cs a) r = into d (f .comma) v k (bytes cs (number a r)) ∙ ap (λ es. passed es) (wanted cs a r)
+    next-number (parted (l ∷ ls) k cs a) r =
+        into d (f .blank) v l (bytes ls (k .code ∷ bytes cs (number a r)))
+        ∙ ap (λ es. passed es)
+        (blanks b (f .gap .none) (f .blanks) u ls (k .code ∷ bytes cs (number a r))
+        ∙ into b (f .blank-comma) u k (bytes cs (number a r))
+        ∙ quiet b (f .gap .none) (λ x. run c x (bytes cs (number a r))) u
+        ∙ wanted cs a r)
+    next-number (joined k l ls) r = into d (f .sign) v k (l .code ∷ bytes ls r) ∙ ap (λ es. passed es) (after-sign (f .want) u k l ls r)
 
   -- two numbers, by what is kept of their sizes and by their sizes
   large : (a b i j : ℕ) (es : List Event)
@@ -165,7 +158,7 @@ module _ (n : ℕ) where
     tail [] v = claim .digit v
     tail (b ∷ bs) v =
         let u = settledOf Y v in
-        into DigitY v b (bytes bs (commands cs [])) ∙ ap (λ es. ended Y v es) (blanks GapY refl refl u bs (commands cs []) ∙ claim .gap u)
+        into DigitY refl v b (bytes bs (commands cs [])) ∙ ap (λ es. ended Y v es) (blanks GapY refl refl u bs (commands cs []) ∙ claim .gap u)
 
     module _ (bs : Blanks) where
       abbrev R : List ℕ
@@ -179,9 +172,9 @@ module _ (n : ℕ) where
           let s = next (p .y) (pairs ps R) in
           let u = read (settledOf Y v) nx s in
           let w = read (settledOf X u) ny (pairs ps R) in
-          next-x v (p .x) s
+          next-number after-y v (p .x) s
           ∙ ap (λ es. ended Y v es)
-          (next-y u (p .y) (pairs ps R)
+          (next-number after-x u (p .y) (pairs ps R)
           ∙ ap (λ es. ended X u es) (more ps w)
           ∙ large (sizeOf nx) (sizeOf ny) (u .place) (w .place) (Line (floatOf nx) (floatOf ny) ∷ lineEvents n ps R (calls true (settledOf Y v) cs)))
 
@@ -196,8 +189,8 @@ module _ (n : ℕ) where
           let u = read v nx s in
           let w = read (settledOf X u) ny (pairs (p .more) R) in
           blanks WantX refl refl v (p .lead) (number nx s)
-          ∙ whole-number want-x v nx s
-          ∙ next-y u (p .y) (pairs (p .more) R)
+          ∙ whole-number (after-y .want) v nx s
+          ∙ next-number after-x u (p .y) (pairs (p .more) R)
           ∙ ap (λ es. ended X u es) (more (p .more) w)
           ∙ large (sizeOf nx) (sizeOf ny) (u .place) (w .place) (put (pointOf Y w) (lineEvents n (p .more) R (calls true (settledOf Y w) cs)))
 
@@ -207,25 +200,25 @@ module _ (n : ℕ) where
       let begins = first cs (claims cs) bs p in
       let r = points p (bytes bs (commands cs [])) in
       record {
-        gap = λ v. into GapY v k r ∙ ap (λ es. EndOpen ∷ es) (begins (withFresh v true));
-        closed = λ v. into Closed v k r ∙ begins (withFresh v true);
-        digit = λ v. into DigitY v k r ∙ ap (λ es. ended Y v (EndOpen ∷ es)) (begins (withFresh (settledOf Y v) true));
+        gap = λ v. into GapY refl v k r ∙ ap (λ es. EndOpen ∷ es) (begins (withFresh v true));
+        closed = λ v. into Closed refl v k r ∙ begins (withFresh v true);
+        digit = λ v. into DigitY refl v k r ∙ ap (λ es. ended Y v (EndOpen ∷ es)) (begins (withFresh (settledOf Y v) true));
       }
   claims (line k p bs ∷ cs) =
       let goes = first cs (claims cs) bs p in
       let r = points p (bytes bs (commands cs [])) in
       record {
-        gap = λ v. into GapY v k r ∙ goes (withFresh v false);
-        closed = λ v. into Closed v k r ∙ ap (λ es. Begin (v .«first_x») (v .«first_y») ∷ es) (goes (withFresh v false));
-        digit = λ v. into DigitY v k r ∙ ap (λ es. ended Y v es) (goes (withFresh (settledOf Y v) false));
+        gap = λ v. into GapY refl v k r ∙ goes (withFresh v false);
+        closed = λ v. into Closed refl v k r ∙ ap (λ es. Begin (v .«first_x») (v .«first_y») ∷ es) (goes (withFresh v false));
+        digit = λ v. into DigitY refl v k r ∙ ap (λ es. ended Y v es) (goes (withFresh (settledOf Y v) false));
       }
   claims (close k bs ∷ cs) =
       let r = commands cs [] in
       let rests : (v : Known) → run Closed v (bytes bs r) ≡ calls false v cs = λ v. blanks Closed refl refl v bs r ∙ claims cs .closed v in
       record {
-        gap = λ v. into GapY v k (bytes bs r) ∙ ap (λ es. EndClosed ∷ es) (rests v);
-        closed = λ v. into Closed v k (bytes bs r) ∙ rests v;
-        digit = λ v. into DigitY v k (bytes bs r) ∙ ap (λ es. ended Y v (EndClosed ∷ es)) (rests (settledOf Y v));
+        gap = λ v. into GapY refl v k (bytes bs r) ∙ ap (λ es. EndClosed ∷ es) (rests v);
+        closed = λ v. into Closed refl v k (bytes bs r) ∙ rests v;
+        digit = λ v. into DigitY refl v k (bytes bs r) ∙ ap (λ es. ended Y v (EndClosed ∷ es)) (rests (settledOf Y v));
       }
 
   -- the machine calls for what the text means
@@ -233,7 +226,7 @@ module _ (n : ℕ) where
   means (empty bs) v = blanks Start refl refl v bs []
   means (drawn bs m p cs ds) v =
       let r = points p (bytes cs (commands ds [])) in
-      blanks Start refl refl v bs (m .code ∷ r) ∙ into Start v m r ∙ first ds (claims ds) cs p (withFresh v true)
+      blanks Start refl refl v bs (m .code ∷ r) ∙ into Start refl v m r ∙ first ds (claims ds) cs p (withFresh v true)
 
 -- a number that is not too large has its own float
 pub exact : (m : Number) → sizeOf m ≤ 32768 → floatOf m ≡ valueOf (minusOf m) (sizeOf m)
