@@ -9,7 +9,7 @@ use borrow.Author.Tests.{le-leb, lt-leb, ne-eqb}
 use lib.Dec.{leb, eqb}
 use Rattle.form.specs.declared.classes.Class.{Class}
 use Rattle.form.specs.declared.classes.Class.the-variants.{Blank, Comma, Sign, Digit, MoveTo, LineTo, ClosePath, Other}
-use Rattle.form.specs.Bytes.{isBlank, isSign, isClose, classOf}
+use Rattle.form.specs.Bytes.{isBlank, isSign, isDigit, isClose, classOf}
 
 -- one of two bytes
 either : (k : Class) (i j b : ℕ) → k ≡ classOf i → k ≡ classOf j → (b ≡ i) ⊎ (b ≡ j) → k ≡ classOf b
@@ -40,10 +40,9 @@ pub close-class : (b : ℕ) → (b ≡ 90) ⊎ (b ≡ 122) → ClosePath ≡ cla
 unfolding classOf
 close-class b e = either ClosePath 90 122 b refl refl e
 
-pub digit-class : (b : ℕ) → 48 ≤ b → b < 58 → Digit ≡ classOf b
+pub digit-class : (b : ℕ) → 48 ≤ b → b ≤ 57 → Digit ≡ classOf b
 unfolding classOf
 digit-class b l h =
-    let h2 : b ≤ 57 = omega arith in
     rw (
       ne-eqb b 32 (omega arith),
       ne-eqb b 9 (omega arith),
@@ -54,49 +53,34 @@ digit-class b l h =
       ne-eqb b 43 (omega arith),
       ne-eqb b 45 (omega arith),
       le-leb 48 b l,
-      le-leb b 57 h2,
+      le-leb b 57 h,
     )
 
--- below the digits, and above them
-pub other-below : (b : ℕ) → b < 48 → (b ≡ 32 → ⊥) → (b ≡ 9 → ⊥) → (b ≡ 10 → ⊥) → (b ≡ 12 → ⊥) → (b ≡ 13 → ⊥) → (b ≡ 44 → ⊥) → ((b ≡ 43) ⊎ (b ≡ 45) → ⊥) → Other ≡ classOf b
+undigited : (b : ℕ) → (57 < b) ⊎ (b < 48) → isDigit b ≡ false
+undigited b (inl h) = rw (le-leb 48 b (omega arith), lt-leb b 57 h)
+undigited b (inr h) = rw (lt-leb 48 b h)
+
+-- what the arms of `class_of` leave
+abbrev Left : ℕ → Type 0
+Left b = (((((Unit × (b ≡ 32 → ⊥)) × (b ≡ 44 → ⊥)) × ((b ≡ 43) ⊎ (b ≡ 45) → ⊥)) × (b ≡ 77 → ⊥)) × (b ≡ 76 → ⊥)) × ((b ≡ 90) ⊎ (b ≡ 122) → ⊥)
+
+pub other-class : (b : ℕ) → (57 < b) ⊎ (b < 48) → Left b → (b ≡ 9 → ⊥) → (b ≡ 10 → ⊥) → (b ≡ 12 → ⊥) → (b ≡ 13 → ⊥) → Other ≡ classOf b
 unfolding classOf
-other-below b h n32 n9 n10 n12 n13 n44 n43 =
+other-class b d r n9 n10 n12 n13 =
     rw (
-      ne-eqb b 32 n32,
+      ne-eqb b 32 (r .0 .0 .0 .0 .0 .1),
       ne-eqb b 9 n9,
       ne-eqb b 10 n10,
       ne-eqb b 12 n12,
       ne-eqb b 13 n13,
-      ne-eqb b 44 n44,
-      ne-eqb b 43 (λ e. n43 (inl e)),
-      ne-eqb b 45 (λ e. n43 (inr e)),
-      lt-leb 48 b h,
-      ne-eqb b 77 (omega arith),
-      ne-eqb b 76 (omega arith),
-      ne-eqb b 90 (omega arith),
-      ne-eqb b 122 (omega arith),
-    )
-
-pub other-above : (b : ℕ) → 58 ≤ b → (b ≡ 77 → ⊥) → (b ≡ 76 → ⊥) → ((b ≡ 90) ⊎ (b ≡ 122) → ⊥) → Other ≡ classOf b
-unfolding classOf
-other-above b h n77 n76 n90 =
-    let l : 48 ≤ b = omega arith in
-    let g : 57 < b = omega arith in
-    rw (
-      ne-eqb b 32 (omega arith),
-      ne-eqb b 9 (omega arith),
-      ne-eqb b 10 (omega arith),
-      ne-eqb b 12 (omega arith),
-      ne-eqb b 13 (omega arith),
-      ne-eqb b 44 (omega arith),
-      ne-eqb b 43 (omega arith),
-      ne-eqb b 45 (omega arith),
-      le-leb 48 b l,
-      lt-leb b 57 g,
-      ne-eqb b 77 n77,
-      ne-eqb b 76 n76,
-      ne-eqb b 90 (λ e. n90 (inl e)),
-      ne-eqb b 122 (λ e. n90 (inr e)),
+      ne-eqb b 44 (r .0 .0 .0 .0 .1),
+      ne-eqb b 43 (λ e. r .0 .0 .0 .1 (inl e)),
+      ne-eqb b 45 (λ e. r .0 .0 .0 .1 (inr e)),
+      undigited b d,
+      ne-eqb b 77 (r .0 .0 .1),
+      ne-eqb b 76 (r .0 .1),
+      ne-eqb b 90 (λ e. r .1 (inl e)),
+      ne-eqb b 122 (λ e. r .1 (inr e)),
     )
 
 -- numbers tell the classes apart

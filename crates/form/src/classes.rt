@@ -14,15 +14,19 @@ pub enum Class {
     Other,
 }
 
-// 0x0C is the form feed.
+// A digit first, since most bytes are one. 0x0C is the form feed.
 pub fn class_of(b: u8) -> Class
     ensures { λ r. ⌜ r ≡ classOf b ⌝ }
 {
+    if b'0' <= b {
+        if b <= b'9' {
+            return Class::Digit;
+        }
+    }
     match b {
         b' ' | b'\t' | b'\n' | 0x0C | b'\r' => Class::Blank,
         b',' => Class::Comma,
         b'+' | b'-' => Class::Sign,
-        b'0'..=b'9' => Class::Digit,
         b'M' => Class::MoveTo,
         b'L' => Class::LineTo,
         b'Z' | b'z' => Class::ClosePath,

@@ -1,60 +1,53 @@
 -- `form::classes::class_of` meets its contract. Assumes nothing.
+use mathlib.Core.Logic.{inl, inr, ⊎-elim}
 use native.Mathlib.Omega.{arith}
 use Rattle.form.specs.Bytes.{classOf}
-use Rattle.form.proofs.Bytes.{tab-or-feed, feed-or-return, sign-class, close-class, digit-class, other-below, other-above}
+use Rattle.form.proofs.Bytes.{tab-or-feed, feed-or-return, sign-class, close-class, digit-class, other-class}
 use Rattle.form.proofs.classes.class_of.Statement.{statement}
 use Rattle.form.proofs.classes.class_of.Tie as tie
 
 returns : tie.Need-returns
-unfolding classOf
-returns c = rw (c .match .keys2)
+returns c = digit-class _ (c .before .if1 .taken) (c .if2 .taken)
 
 returns-2 : tie.Need-returns-2
-returns-2 c = sign-class _ (c .match .keys3)
+unfolding classOf
+returns-2 c = rw (c .match .keys2)
 
 returns-3 : tie.Need-returns-3
-unfolding classOf
-returns-3 c = rw (c .match .keys4)
+returns-3 c = sign-class _ (c .match .keys3)
 
 returns-4 : tie.Need-returns-4
 unfolding classOf
-returns-4 c = rw (c .match .keys5)
+returns-4 c = rw (c .match .keys4)
 
 returns-5 : tie.Need-returns-5
-returns-5 c = close-class _ (c .match .keys6)
+unfolding classOf
+returns-5 c = rw (c .match .keys5)
 
 returns-6 : tie.Need-returns-6
-returns-6 c = digit-class _ (c .before .if5 .left) (c .if6 .taken)
+returns-6 c = close-class _ (c .match .keys6)
 
 returns-7 : tie.Need-returns-7
-returns-7 c =
-    let r = c .before .match .rest in
-    other-below _ (omega arith) (r .0 .0 .0 .0 .0 .1) (omega arith) (omega arith) (omega arith) (omega arith) (r .0 .0 .0 .0 .1) (r .0 .0 .0 .1)
+returns-7 c = other-class _ (inr (omega arith)) (c .before .match .rest) (omega arith) (omega arith) (omega arith) (omega arith)
 
 returns-8 : tie.Need-returns-8
-returns-8 c =
-    let r = c .before .before .before .match .rest in
-    other-below _ (omega arith) (r .0 .0 .0 .0 .0 .1) (omega arith) (omega arith) (omega arith) (omega arith) (r .0 .0 .0 .0 .1) (r .0 .0 .0 .1)
+returns-8 c = other-class _ (inr (omega arith)) (c .before .before .before .match .rest) (omega arith) (omega arith) (omega arith) (omega arith)
 
 returns-9 : tie.Need-returns-9
 returns-9 c =
-    let r = c .before .before .before .before .before .match .rest in
-    other-below _ (omega arith) (r .0 .0 .0 .0 .0 .1) (omega arith) (omega arith) (omega arith) (omega arith) (r .0 .0 .0 .0 .1) (r .0 .0 .0 .1)
+    let at-match = c .before .before .before .before in
+    let no-digit = ⊎-elim (λ w. inl (w .1 .left)) (λ w. inr (w .left)) (at-match .before .if1 .came) in
+    other-class _ no-digit (at-match .match .rest) (omega arith) (omega arith) (omega arith) (omega arith)
 
 returns-10 : tie.Need-returns-10
-returns-10 c =
-    let r = c .before .before .before .before .before .before .match .rest in
-    other-above _ (c .if6 .left) (r .0 .0 .1) (r .0 .1) (r .1)
+unfolding classOf
+returns-10 c = rw (c .match .keys1)
 
 returns-11 : tie.Need-returns-11
-unfolding classOf
-returns-11 c = rw (c .match .keys1)
+returns-11 c = tab-or-feed _ (c .before .if3 .left) (c .if4 .taken)
 
 returns-12 : tie.Need-returns-12
-returns-12 c = tab-or-feed _ (c .before .if1 .left) (c .if2 .taken)
-
-returns-13 : tie.Need-returns-13
-returns-13 c = feed-or-return _ (c .before .if3 .left) (c .if4 .taken)
+returns-12 c = feed-or-return _ (c .before .if5 .left) (c .if6 .taken)
 
 pub class-of-spec : {M : Type 1} → statement M
 class-of-spec =
@@ -71,5 +64,4 @@ class-of-spec =
     returns-9
     returns-10
     returns-11
-    returns-12
-    returns-13)
+    returns-12)
