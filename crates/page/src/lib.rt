@@ -1,9 +1,9 @@
 // Document 01's program, but for its input and output: what it prints of a path text, put into a list.
+mod line;
 mod mesh_lines;
-mod single_lines;
 
+use crate::line::put_refused;
 use crate::mesh_lines::put_mesh;
-use crate::single_lines::put_refused;
 use mesh::answer::mesh_answer_of;
 use mesh::tessellate;
 use path::options::Options;

@@ -1,8 +1,8 @@
 // The page of a mesh: `v N` and a line to each vertex, `t N` and a line to each triangle.
 use crate::Page;
-use crate::single_lines::put_count;
-use crate::single_lines::put_triangle;
-use crate::single_lines::put_vertex;
+use crate::line::put_count;
+use crate::line::put_triangle;
+use crate::line::put_vertex;
 ghost use Prim.Native.Nat.{_+_, _*_, _≤_};
 ghost use lib.ListN.{length};
 ghost use Rattle.lines.specs.Placed.{Puts};

@@ -1,9 +1,9 @@
--- `page::single_lines::put_triangle` meets its contract: five digits at most to each of its numbers. Assumes nothing.
+-- `page::line::put_triangle` meets its contract: five digits at most to each of its numbers. Assumes nothing.
 use native.Mathlib.Omega.{arith}
 use Rattle.lines.proofs.Behind.{puts-then}
 use Rattle.lines.proofs.Placing.{decimal-few}
-use Rattle.page.proofs.single_lines.put_triangle.Statement.{statement}
-use Rattle.page.proofs.single_lines.put_triangle.Tie as tie
+use Rattle.page.proofs.line.put_triangle.Statement.{statement}
+use Rattle.page.proofs.line.put_triangle.Tie as tie
 
 decimal-at-requires : tie.Need-decimal-at-requires
 decimal-at-requires c κs = omega arith

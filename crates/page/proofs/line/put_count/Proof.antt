@@ -1,8 +1,8 @@
--- `page::single_lines::put_count` meets its contract. Assumes nothing.
+-- `page::line::put_count` meets its contract. Assumes nothing.
 use native.Mathlib.Omega.{arith}
 use Rattle.lines.proofs.Behind.{puts-then}
-use Rattle.page.proofs.single_lines.put_count.Statement.{statement}
-use Rattle.page.proofs.single_lines.put_count.Tie as tie
+use Rattle.page.proofs.line.put_count.Statement.{statement}
+use Rattle.page.proofs.line.put_count.Tie as tie
 
 byte-at-requires : tie.Need-byte-at-requires
 byte-at-requires c κs = omega arith

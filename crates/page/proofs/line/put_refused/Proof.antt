@@ -1,15 +1,15 @@
--- `page::single_lines::put_refused` meets its contract. Assumes nothing.
-use borrow.Author.Needs.{needs}
+-- `page::line::put_refused` meets its contract. Assumes nothing.
+use mathlib.Core.Path.{refl}
 use native.Mathlib.Omega.{arith}
 use Rattle.lines.proofs.Behind.{puts-then}
-use Rattle.page.proofs.single_lines.put_refused.Statement.{statement}
-use Rattle.page.proofs.single_lines.put_refused.Tie as tie
+use Rattle.page.proofs.line.put_refused.Statement.{statement}
+use Rattle.page.proofs.line.put_refused.Tie as tie
 
 slice-aggregate-text-at : tie.Need-slice-aggregate-text-at
-slice-aggregate-text-at c = search needs
+slice-aggregate-text-at c = refl
 
 text-at-requires : tie.Need-text-at-requires
-text-at-requires c κs = search needs
+text-at-requires c κs = omega arith
 
 decimal-at-requires : tie.Need-decimal-at-requires
 decimal-at-requires c κs = omega arith

@@ -1,8 +1,8 @@
--- `page::single_lines::put_vertex` meets its contract. Assumes nothing.
+-- `page::line::put_vertex` meets its contract. Assumes nothing.
 use native.Mathlib.Omega.{arith}
 use Rattle.lines.proofs.Behind.{puts-then}
-use Rattle.page.proofs.single_lines.put_vertex.Statement.{statement}
-use Rattle.page.proofs.single_lines.put_vertex.Tie as tie
+use Rattle.page.proofs.line.put_vertex.Statement.{statement}
+use Rattle.page.proofs.line.put_vertex.Tie as tie
 
 float-at-requires : tie.Need-float-at-requires
 float-at-requires c κs = omega arith
