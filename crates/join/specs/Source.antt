@@ -1,6 +1,6 @@
--- lyon's `compute_join_side_positions` as it stands in its source, stroke.rs, in its order and with its names. What it calls is document 01's:
--- `normalOf` is `compute_normal`, `exceededOf` the limit of rule 5, `clippedOf` the clip of rule 6, `minOf` Rust's `f32::min`. The theorem of it is in
--- proofs/Source.antt: its two calls leave in a join's record what `sidePositionsOf` says. Assumes nothing.
+-- lyon's `compute_join_side_positions` as it stands in its source, stroke.rs, in its order and with its names, to be read beside it. What it calls is
+-- document 01's: `normalOf` is `compute_normal`, `exceededOf` the limit of rule 5, `clippedOf` the clip of rule 6, `minOf` Rust's `f32::min`. The contracts use
+-- `sidePositionsOf` of `Record`; that the source's two calls, one to a side, leave the same is `source-same` in proofs/Source.antt. Assumes nothing.
 use mathlib.Core.Path.{_≡_}
 use mathlib.Core.Bool.{Bool, true, false, not, _&&_, _||_}
 use mathlib.Core.Option.{Option, none, some}

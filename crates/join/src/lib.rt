@@ -3,4 +3,4 @@ mod clip;
 pub mod edge;
 mod logic;
 pub mod record;
-pub mod side;
+mod side;
