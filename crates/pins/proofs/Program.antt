@@ -1,36 +1,31 @@
 -- Document 01's example, computed: "For `M0 1L2 1` it prints just this". Assumes nothing.
-use Prim.Native.Nat.{ℕ}
 use mathlib.Core.Path.{refl}
-use mathlib.Core.List.{List}
 use lib.Count.{leadingZeros}
-use lib.Ieee.{add, sub, mul, div, neg, lt, eq, ne, le, ofBits, toBits, ofInt}
+use lib.Ieee.{sub, mul, div, le, ofBits, toBits, ofInt}
 use Rattle.lists.specs.Over.{over}
 use Rattle.root.specs.Compute.{floorRoot, partsRoot, bitsRoot, rootOf}
-use Rattle.plane.specs.Normal.{normalOf}
-use Rattle.plane.specs.Vector.{plusOf, minusOf, timesOf, overOf, negatedOf, turnedOf, dotOf, crossOf, squareLengthOf, lengthOf, normalizeOf}
-use Rattle.endpoint.specs.Endpoint.{singleOf, pairOf}
-use Rattle.join.specs.Clip.{sideLineOf, unmovedOf, movedOf, clippedOf}
+use Rattle.plane.specs.Vector.{plusOf, minusOf, timesOf, overOf, negatedOf, turnedOf, squareLengthOf, lengthOf}
+use Rattle.endpoint.specs.Endpoint.{singleOf}
 use Rattle.join.specs.Edge.{edgeSideOf, edgeOf}
 use Rattle.vertices.specs.Base.{baseVertexOf, sideVerticesOf}
-use Rattle.vertices.specs.Vertex.{vertexOf, triangleOf}
+use Rattle.vertices.specs.Vertex.{vertexOf}
 use Rattle.path.specs.Coordinates.{coordinateIn, firstOutside}
-use Rattle.path.specs.Options.{within, lineJoinOf, inRange, clipOf, preparedOf, strokeOf}
+use Rattle.path.specs.Options.{within, inRange, clipOf, preparedOf, strokeOf}
 use Rattle.path.specs.Path.{malformed, checkedOf}
 use Rattle.path.specs.Runs.{runsFrom}
 use Rattle.path.specs.Verbs.{names, placed, firstMisplaced, endsInside, named, pointCount}
 use Rattle.points.specs.Points.{endpointsOf}
-use Rattle.course.specs.Joint.{dataOf, unworkedOf, jointOf, capOf, startCapOf, endCapOf, jointsFrom, jointsOf}
-use Rattle.course.specs.Kept.{nearOf, keptBehind, allNear, trimmed, keptPoints}
-use Rattle.course.specs.Leg.{legOf, nextLegOf, legsFrom, legsOf, shortOf, firstShort}
+use Rattle.course.specs.Joint.{dataOf, capOf, startCapOf, endCapOf, jointsFrom, jointsOf}
+use Rattle.course.specs.Kept.{nearOf, keptBehind, keptPoints}
+use Rattle.course.specs.Leg.{legOf, legsFrom, legsOf, shortOf, firstShort}
 use Rattle.strip.specs.Joint.{vertexCount, jointVerticesOf, verticesOf}
 use Rattle.strip.specs.Section.{sections}
 use Rattle.strip.specs.Triangle.{flatT, different, triOf, between, stripOf, through}
-use Rattle.run.specs.Run.{drawsCap, shapeOf, shapeCount, shapeVertices, shapeTriangles}
+use Rattle.run.specs.Run.{shapeOf, shapeCount, shapeVertices, shapeTriangles}
 use Rattle.drive.specs.Runs.{meshVertices, meshCount, meshTriangles, meshEdges}
 use Rattle.mesh.specs.Answer.{judgedOf}
 use Rattle.mesh.specs.Mesh.{acceptedOf, strokedOf, outcomeOf}
 use Rattle.form.specs.Bytes.{classOf}
-use Rattle.form.specs.Machine.{stop}
 use Rattle.values.specs.Numbers.{valueOf}
 use Rattle.reader.specs.Read.{scannedOf, formedOf, outcomeOf as readOf}
 use Rattle.reader.proofs.Meets.{meets}
@@ -39,31 +34,31 @@ use Rattle.page.specs.Page.{bytes, verbRoom, coordRoom, linesTo, meshPage, mesh
 
 -- what the checker opens to compute it
 arithmetic : Unit {0}
-unfolding leadingZeros add sub mul div neg lt eq ne le ofBits toBits ofInt floorRoot partsRoot bitsRoot rootOf
+unfolding leadingZeros sub mul div le ofBits toBits ofInt floorRoot partsRoot bitsRoot rootOf
 arithmetic = tt
 
 vectors : Unit {0}
-unfolding normalOf plusOf minusOf timesOf overOf negatedOf turnedOf dotOf crossOf squareLengthOf lengthOf normalizeOf
+unfolding plusOf minusOf timesOf overOf negatedOf turnedOf squareLengthOf lengthOf
 vectors = tt
 
 joins : Unit {0}
-unfolding singleOf pairOf sideLineOf unmovedOf movedOf clippedOf edgeSideOf edgeOf baseVertexOf sideVerticesOf vertexOf triangleOf
+unfolding singleOf edgeSideOf edgeOf baseVertexOf sideVerticesOf vertexOf
 joins = tt
 
 paths : Unit {0}
-unfolding coordinateIn firstOutside within lineJoinOf inRange clipOf preparedOf strokeOf malformed checkedOf runsFrom names placed firstMisplaced endsInside named pointCount endpointsOf
+unfolding coordinateIn firstOutside within inRange clipOf preparedOf strokeOf malformed checkedOf runsFrom names placed firstMisplaced endsInside named pointCount endpointsOf
 paths = tt
 
 runs : Unit {0}
-unfolding dataOf unworkedOf jointOf capOf startCapOf endCapOf jointsFrom jointsOf nearOf keptBehind allNear trimmed keptPoints legOf nextLegOf legsFrom legsOf shortOf firstShort
+unfolding dataOf capOf startCapOf endCapOf jointsFrom jointsOf nearOf keptBehind keptPoints legOf legsFrom legsOf shortOf firstShort
 runs = tt
 
 meshes : Unit {0}
-unfolding vertexCount jointVerticesOf verticesOf sections flatT different triOf between stripOf through drawsCap shapeOf shapeCount shapeVertices shapeTriangles meshVertices meshCount meshTriangles meshEdges
+unfolding vertexCount jointVerticesOf verticesOf sections flatT different triOf between stripOf through shapeOf shapeCount shapeVertices shapeTriangles meshVertices meshCount meshTriangles meshEdges
 meshes = tt
 
 calls : Unit {0}
-unfolding judgedOf acceptedOf strokedOf outcomeOf over classOf stop valueOf scannedOf formedOf readOf glyphOf digitsOf placesUpTo decimalOf linesTo meshPage meshPageOf readPageOf
+unfolding judgedOf acceptedOf strokedOf outcomeOf over classOf valueOf scannedOf formedOf readOf glyphOf digitsOf placesUpTo decimalOf linesTo meshPage meshPageOf readPageOf
 calls = tt
 
 pub example : Prints (bytes "M0 1L2 1") (bytes "v 4\n00000000 40000000\n00000000 00000000\n40000000 40000000\n40000000 00000000\nt 2\n1 0 2\n1 2 3\n")
