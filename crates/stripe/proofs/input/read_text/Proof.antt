@@ -1,5 +1,4 @@
 -- `stripe::input::read_text` meets its contract. The loop's invariant: no more bytes are counted than the list has. Assumes nothing.
-use borrow.Author.Needs.{needs}
 use Prim.Native.Nat.{_-_, _≤_}
 use mathlib.Core.Path.{_≡_, sym}
 use native.Mathlib.Omega.{arith}
