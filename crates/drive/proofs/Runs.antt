@@ -5,12 +5,14 @@ use mathlib.Core.List.{List, [], _∷_, _++_, append-assoc}
 use native.Mathlib.Omega.{arith}
 use lib.ListN.{length, length-append}
 use Rattle.endpoint.specs.declared.Endpoint.{Endpoint}
+use Rattle.pieces.specs.Piece.{joined, behind, nextVertex}
+use Rattle.pieces.specs.declared.Place.{Place}
 use Rattle.path.specs.declared.options.Stroke.{Stroke}
 use Rattle.path.specs.Runs.{Run, pointsOf}
 use Rattle.run.specs.Run.{shapeCount}
 use Rattle.run.proofs.Facts.{run-within, run-anywhere}
 use Rattle.run.proofs.Whole.{length-shape}
-use Rattle.drive.specs.Runs.{Count, drawnOf, meshVertices, meshCount, meshTriangles, meshCounts}
+use Rattle.drive.specs.Runs.{Count, drawnOf, meshVertices, meshCount, meshTriangles, meshPiece, meshCounts}
 
 module _ (o : Stroke) where
   pub vertices-append : (xs ys : List (Run Endpoint)) → meshVertices o (xs ++ ys) ≡ meshVertices o xs ++ meshVertices o ys
@@ -30,11 +32,16 @@ module _ (o : Stroke) where
       let n : base + (shapeCount (drawnOf o x) + meshCount o xs) ≡ base + shapeCount (drawnOf o x) + meshCount o xs = omega arith in
       rw (n, triangles-append (base + shapeCount (drawnOf o x)) xs ys, append-assoc)
 
-  -- five floats to a vertex
-  pub length-vertices : (rs : List (Run Endpoint)) → length (meshVertices o rs) ≡ 5 * meshCount o rs
+  pub length-vertices : (rs : List (Run Endpoint)) → length (meshVertices o rs) ≡ meshCount o rs
   unfolding meshVertices meshCount
   length-vertices [] = refl
-  length-vertices (r ∷ rs) = rw (length-append, length-shape, length-vertices rs) (omega arith)
+  length-vertices (r ∷ rs) = rw (length-append, length-shape, length-vertices rs)
+
+  -- pieces one behind the other
+  pub meshes-append : (k : Place) (xs ys : List (Run Endpoint)) → meshPiece o k (xs ++ ys) ≡ joined (meshPiece o k xs) (meshPiece o (behind k (meshPiece o k xs)) ys)
+  meshes-append k xs ys =
+      let n : k .base .0 + (k .vertices + meshCount o xs) ≡ k .base .0 + k .vertices + meshCount o xs = omega arith in
+      rw (vertices-append xs ys, triangles-append (nextVertex k) xs ys, length-vertices xs, n)
 
   -- how many triangles there are does not hang on the number that the vertices begin with
   pub triangles-anywhere : (base : ℕ) (rs : List (Run Endpoint)) → length (meshTriangles o base rs) ≡ length (meshTriangles o 0 rs)

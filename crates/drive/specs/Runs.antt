@@ -10,7 +10,9 @@ use Rattle.points.specs.Points.{endpointsOf}
 use Rattle.course.specs.Kept.{keptPoints}
 use Rattle.course.specs.Leg.{legsOf, firstShort}
 use Rattle.course.specs.declared.leg.Leg.{Leg}
-use Rattle.strip.specs.Triangle.{Tri}
+use Rattle.triangles.specs.Tri.{Tri}
+use Rattle.pieces.specs.Piece.{Vertex, Piece, nextVertex}
+use Rattle.pieces.specs.declared.Place.{Place}
 use Rattle.run.specs.Run.{Shape, shapeOf, shapeCount, shapeVertices, shapeTriangles}
 
 -- "A path is a list of verb bytes .. and a list of coordinates, two to each begin or line."
@@ -21,8 +23,8 @@ runsOf verbs coords = runsFrom 0 verbs (endpointsOf 0 coords)
 abbrev pub drawnOf : Stroke → Run Endpoint → Shape
 drawnOf o r = shapeOf o (r .closed) (r .points)
 
--- rule 8: the vertices, five floats each
-unfoldable pub meshVertices : Stroke → List (Run Endpoint) → List Float
+-- rule 8: the vertices
+unfoldable pub meshVertices : Stroke → List (Run Endpoint) → List Vertex
 meshVertices o [] = []
 meshVertices o (r ∷ rs) = shapeVertices o (drawnOf o r) ++ meshVertices o rs
 
@@ -34,6 +36,10 @@ meshCount o (r ∷ rs) = shapeCount (drawnOf o r) + meshCount o rs
 unfoldable pub meshTriangles : Stroke → ℕ → List (Run Endpoint) → List Tri
 meshTriangles o base [] = []
 meshTriangles o base (r ∷ rs) = shapeTriangles (r .closed) base (drawnOf o r) ++ meshTriangles o (base + shapeCount (drawnOf o r)) rs
+
+-- both, written from a place on
+abbrev pub meshPiece : Stroke → Place → List (Run Endpoint) → Piece
+meshPiece o k rs = record { vertices = meshVertices o rs; triangles = meshTriangles o (nextVertex k) rs }
 
 -- "the kept edges of all runs, closing ones included"
 unfoldable pub meshEdges : Stroke → List (Run Endpoint) → List Leg

@@ -6,14 +6,17 @@ use endpoint::VertexId;
 use path::options::Stroke;
 use path::verbs::END_CLOSED;
 use path::verbs::names_point;
-use run::draw::Drawn;
+use pieces::Index;
+use pieces::Place;
+use pieces::next_vertex;
 use run::draw::draw_run;
 ghost use mathlib.Core.Bool.{cond};
 ghost use mathlib.Core.Path.{_≡_};
+ghost use Rattle.pieces.specs.Piece.{lent, Fits, Puts};
 ghost use Rattle.points.specs.Points.{endpointsOf};
-ghost use Rattle.drive.specs.Runs.{runsOf};
+ghost use Rattle.drive.specs.Runs.{runsOf, meshPiece};
 ghost use Rattle.drive.specs.Cursor.{endedOf};
-ghost use Rattle.drive.specs.Passes.{Paired, Inside, Has, Puts, undrawn};
+ghost use Rattle.drive.specs.Passes.{Paired, Inside, undrawn};
 
 // Where a pass that writes goes on; one that only counts is lent no places.
 fn place_of(write: bool, place: usize) -> usize
@@ -28,17 +31,17 @@ fn place_of(write: bool, place: usize) -> usize
 // A verb that ends a run draws it, in the parts of the lists that begin where the last run ended.
 fn draw_verb(
     v: &mut [f32],
-    t: &mut [u16],
+    t: &mut [Index],
     o: Stroke,
     coords: &[f32],
     g: Cursor,
     verb: u8,
-    d: Drawn,
+    d: Place,
     write: bool,
-) -> Drawn
+) -> Place
     requires { ⌜ Inside g (now coords) ⌝ }
-    requires { ⌜ Has write o d (endedOf g verb (endpointsOf 0 (now coords))) (now v) (now t) ⌝ }
-    ensures { λ r. ⌜ Puts write o d (endedOf g verb (endpointsOf 0 (now (coords .entry)))) (now (v .entry)) (now (v .exit)) (now (t .entry)) (now (t .exit)) r ⌝ }
+    requires { ⌜ Fits write d (meshPiece o d (endedOf g verb (endpointsOf 0 (now coords)))) (lent (now v) (now t)) ⌝ }
+    ensures { λ r. ⌜ Puts write d (meshPiece o d (endedOf g verb (endpointsOf 0 (now (coords .entry))))) (lent (now (v .entry)) (now (t .entry))) (lent (now (v .exit)) (now (t .exit))) r ⌝ }
 {
     let n = d.vertices;
     let m = d.triangles;
@@ -51,6 +54,7 @@ fn draw_verb(
     let to = 2 * (i + g.size);
     let at = place_of(write, 5 * n);
     let on = place_of(write, 3 * m);
+    let next = next_vertex(d);
     let run = draw_run(
         &mut v[at..],
         &mut t[on..],
@@ -58,10 +62,16 @@ fn draw_verb(
         &coords[from..to],
         first,
         verb == END_CLOSED,
-        VertexId(n as u32),
+        Place {
+            base: next,
+            vertices: 0,
+            triangles: 0,
+        },
         write,
     );
-    Drawn {
+    let base = d.base;
+    Place {
+        base,
         vertices: n + run.vertices,
         triangles: m + run.triangles,
     }
@@ -69,17 +79,18 @@ fn draw_verb(
 
 pub fn draw_runs(
     v: &mut [f32],
-    t: &mut [u16],
+    t: &mut [Index],
     o: Stroke,
     verbs: &[u8],
     coords: &[f32],
     write: bool,
-) -> Drawn
+) -> Place
     requires { ⌜ Paired (now verbs) (now coords) ⌝ }
-    requires { ⌜ Has write o undrawn (runsOf (now verbs) (now coords)) (now v) (now t) ⌝ }
-    ensures { λ r. ⌜ Puts write o undrawn (runsOf (now (verbs .entry)) (now (coords .entry))) (now (v .entry)) (now (v .exit)) (now (t .entry)) (now (t .exit)) r ⌝ }
+    requires { ⌜ Fits write undrawn (meshPiece o undrawn (runsOf (now verbs) (now coords))) (lent (now v) (now t)) ⌝ }
+    ensures { λ r. ⌜ Puts write undrawn (meshPiece o undrawn (runsOf (now (verbs .entry)) (now (coords .entry)))) (lent (now (v .entry)) (now (t .entry))) (lent (now (v .exit)) (now (t .exit))) r ⌝ }
 {
-    let mut d = Drawn {
+    let mut d = Place {
+        base: VertexId(0),
         vertices: 0,
         triangles: 0,
     };

@@ -11,14 +11,14 @@ pub struct VertexId(pub u32);
 
 // The endpoint that comes n behind another, and the vertex that does.
 pub fn endpoint_after(first: EndpointId, n: usize) -> EndpointId
-    requires { ⌜ first .0 + n < 65536 ⌝ }
+    requires { ⌜ first .0 + n < 4294967296 ⌝ }
     ensures { λ r. ⌜ r ≡ endpointAfter first n ⌝ }
 {
     EndpointId(first.0 + n as u32)
 }
 
 pub fn vertex_after(base: VertexId, n: usize) -> VertexId
-    requires { ⌜ base .0 + n < 65536 ⌝ }
+    requires { ⌜ base .0 + n < 4294967296 ⌝ }
     ensures { λ r. ⌜ r ≡ vertexAfter base n ⌝ }
 {
     VertexId(base.0 + n as u32)

@@ -1,10 +1,10 @@
--- Laws of `over`: it keeps the length, it is built element by element, and two lists one behind the other are written in turn. Assumes nothing.
-use Prim.Native.Nat.{suc, _≤_, _<_}
+-- Laws of `over` and `putAt`: the length is kept, and lists one behind the other are written in turn, however long they are. Assumes nothing.
+use Prim.Native.Nat.{ℕ, zero, suc, _+_, _*_, _≤_, _<_}
 use mathlib.Core.Path.{_≡_, refl, ap}
-use mathlib.Core.List.{List, [], _∷_, _++_}
+use mathlib.Core.List.{List, [], _∷_, _++_, append-assoc}
 use native.Mathlib.Omega.{arith}
-use lib.ListN.{length, take, drop, set}
-use Rattle.lists.specs.Over.{over}
+use lib.ListN.{length, take, drop, set, length-append}
+use Rattle.lists.specs.Over.{over, putAt, flat}
 
 module _ {A : Type 0} where
   pub over-none : (xs : List A) → over [] xs ≡ xs
@@ -16,6 +16,11 @@ module _ {A : Type 0} where
   length-over [] xs = refl
   length-over (v ∷ vs) [] = refl
   length-over (v ∷ vs) (x ∷ xs) = ap suc (length-over vs xs)
+
+  over-nil : (vs : List A) → [] ≡ over vs []
+  unfolding over
+  over-nil [] = refl
+  over-nil (v ∷ vs) = refl
 
   -- one element more
   pub over-next : (vs : List A) (v : A) (xs : List A) → length vs < length xs → set (over vs xs) (length vs) v ≡ over (vs ++ (v ∷ [])) xs
@@ -66,3 +71,72 @@ module _ {A : Type 0} where
   drop-over [] xs = refl
   drop-over (v ∷ vs) [] = refl
   drop-over (v ∷ vs) (x ∷ xs) = drop-over vs xs
+
+  -- ---- from a place on
+  pub put-start : (vs xs : List A) → putAt 0 vs xs ≡ over vs xs
+  unfolding putAt
+  put-start vs xs = refl
+
+  pub put-none : (k : ℕ) (xs : List A) → putAt k [] xs ≡ xs
+  unfolding putAt over
+  put-none zero xs = refl
+  put-none (suc k) [] = refl
+  put-none (suc k) (x ∷ xs) = ap (λ (l : List A). x ∷ l) (put-none k xs)
+
+  pub length-put : (k : ℕ) (vs xs : List A) → length (putAt k vs xs) ≡ length xs
+  unfolding putAt
+  length-put zero vs xs = length-over vs xs
+  length-put (suc k) vs [] = refl
+  length-put (suc k) vs (x ∷ xs) = ap suc (length-put k vs xs)
+
+  put-over : (vs ws xs : List A) → putAt (length vs) ws (over vs xs) ≡ over (vs ++ ws) xs
+  unfolding putAt over
+  put-over [] ws xs = refl
+  put-over (v ∷ vs) ws [] = refl
+  put-over (v ∷ vs) ws (x ∷ xs) = ap (λ (l : List A). v ∷ l) (put-over vs ws xs)
+
+  -- vs at k, and ws behind them
+  pub put-append : (k : ℕ) (vs ws xs : List A) → putAt (k + length vs) ws (putAt k vs xs) ≡ putAt k (vs ++ ws) xs
+  unfolding putAt
+  put-append zero vs ws xs = let e : 0 + length vs ≡ length vs = omega arith in rw e (put-over vs ws xs)
+  put-append (suc k) vs ws [] = let e : suc k + length vs ≡ suc (k + length vs) = omega arith in rw e
+  put-append (suc k) vs ws (x ∷ xs) = let e : suc k + length vs ≡ suc (k + length vs) = omega arith in rw e (ap (λ (l : List A). x ∷ l) (put-append k vs ws xs))
+
+  pub put-is-over : (k : ℕ) (vs xs : List A) → putAt k vs xs ≡ take k xs ++ over vs (drop k xs)
+  unfolding putAt
+  put-is-over zero vs xs = refl
+  put-is-over (suc k) vs [] = over-nil vs
+  put-is-over (suc k) vs (x ∷ xs) = ap (λ (l : List A). x ∷ l) (put-is-over k vs xs)
+
+  -- two that do not touch, in either order
+  pub put-swap : (j k : ℕ) (vs ws xs : List A) → j + length vs ≤ k → putAt k ws (putAt j vs xs) ≡ putAt j vs (putAt k ws xs)
+  unfolding putAt over
+  put-swap zero k [] ws xs h = refl
+  put-swap zero zero (v ∷ vs) ws xs h = absurd (omega arith)
+  put-swap zero (suc k) (v ∷ vs) ws [] h = refl
+  put-swap zero (suc k) (v ∷ vs) ws (x ∷ xs) h = ap (λ (l : List A). v ∷ l) (put-swap zero k vs ws xs (omega arith))
+  put-swap (suc j) zero vs ws xs h = absurd (omega arith)
+  put-swap (suc j) (suc k) vs ws [] h = refl
+  put-swap (suc j) (suc k) vs ws (x ∷ xs) h = ap (λ (l : List A). x ∷ l) (put-swap j k vs ws xs (omega arith))
+
+-- ---- spelt lists
+module _ {A B : Type 0} (f : A → List B) where
+  pub flat-append : (xs ys : List A) → flat f (xs ++ ys) ≡ flat f xs ++ flat f ys
+  unfolding flat
+  flat-append [] ys = refl
+  flat-append (x ∷ xs) ys = rw (flat-append xs ys, append-assoc)
+
+  -- vs at k, each spelt by n, and ws behind them
+  module _ (n : ℕ) (size : (x : A) → length (f x) ≡ n) where
+    pub length-flat : (xs : List A) → length (flat f xs) ≡ n * length xs
+    unfolding flat
+    length-flat [] = omega arith
+    length-flat (x ∷ xs) = rw (length-append, size x, length-flat xs) (go n (length xs))
+      where
+        go : (n m : ℕ) → n + n * m ≡ n * suc m
+        go n m = omega arith
+
+    pub put-flat : (k : ℕ) (vs ws : List A) (xs : List B) → putAt (n * (k + length vs)) (flat f ws) (putAt (n * k) (flat f vs) xs) ≡ putAt (n * k) (flat f (vs ++ ws)) xs
+    put-flat k vs ws xs =
+        let e : n * (k + length vs) ≡ n * k + length (flat f vs) = rw (length-flat vs) (omega arith) in
+        rw (e, flat-append vs ws) (put-append (n * k) (flat f vs) (flat f ws) xs)

@@ -1,3 +1,3 @@
--- Laws for whoever writes lists: `Laws` of `over`, `Parts` of a part that begins in the middle and is lent to a writer.
+-- Laws for whoever writes lists: `Laws` of `over` and `putAt`, `Parts` of a part that begins in the middle and is lent to a writer.
 pub mod Laws
 pub mod Parts

@@ -6,8 +6,8 @@ use native.Mathlib.Omega.{arith}
 use lib.ListN.{length, take, drop, length-drop}
 use lib.Seq.{length-take-le, take-append-add, drop-append-add, take-all, drop-length, drop-drop}
 use borrow.Rule.Slice.PartMut.{midOf, putMid}
-use Rattle.lists.specs.Over.{over}
-use Rattle.lists.proofs.Laws.{length-over, over-append}
+use Rattle.lists.specs.Over.{over, putAt}
+use Rattle.lists.proofs.Laws.{length-over, over-append, put-is-over}
 
 module _ {A : Type 0} where
   take-past : (p q : List A) (k m : ℕ) → length p ≡ k → take (k + m) (p ++ q) ≡ p ++ take m q
@@ -53,3 +53,7 @@ module _ {A : Type 0} where
       let r : k ≤ length ys = rw (e, length-over vs xs) h in
       let h2 : length vs ≤ length xs = omega arith in
       rw (put-is ys zs k r, f, part-is ys k r, e, ← l) (sym (over-append vs ws xs h2))
+
+  -- what a callee wrote at the start of the part from k on stands at k
+  pub put-part : (v ys ws : List A) (k : ℕ) → k ≤ length v → ys ≡ over ws (midOf k (length v - k) v) → putMid k (length v - k) v ys ≡ putAt k ws v
+  put-part v ys ws k h e = rw (put-is v ys k h, e, part-is v k h) (sym (put-is-over k ws v))

@@ -19,8 +19,8 @@ use Rattle.path.proofs.Runs.{formed, runs-verbs, runs-points}
 use Rattle.points.specs.Points.{endpointsOf}
 use Rattle.points.proofs.Indexed.{points-length}
 use Rattle.course.specs.Leg.{firstShort}
-use Rattle.strip.specs.Triangle.{flatT}
-use Rattle.strip.proofs.Triangles.{length-flatT}
+use Rattle.pieces.specs.Piece.{flatV, flatT}
+use Rattle.pieces.proofs.Pieces.{length-flatV, length-flatT}
 use Rattle.run.specs.Run.{shapeCount}
 use Rattle.run.proofs.Facts.{run-covers, run-counts}
 use Rattle.drive.specs.Runs.{runsOf, drawnOf, meshVertices, meshCount, meshTriangles, meshEdges}
@@ -56,7 +56,7 @@ module _ (o : Stroke) (rs : List (Run Endpoint)) (v : List Float) (t : List ℕ)
       rw (le-ltb _ _ none-short, le-ltb (length v / 5) (meshCount o rs) a, lt-ltb (length t / 3) (length (meshTriangles o 0 rs)) b)
 
   abbrev whole : Outcome
-  whole = record { answer = withCounts (numberOf accepted) (meshCount o rs) (length (meshTriangles o 0 rs)); vertices = over (meshVertices o rs) v; triangles = over (flatT (meshTriangles o 0 rs)) t }
+  whole = record { answer = withCounts (numberOf accepted) (meshCount o rs) (length (meshTriangles o 0 rs)); vertices = over (flatV (meshVertices o rs)) v; triangles = over (flatT (meshTriangles o 0 rs)) t }
 
   module _ (h : 5 * meshCount o rs ≤ length v) (g : 3 * length (meshTriangles o 0 rs) ≤ length t) where
     is-whole : acceptedOf v t o rs ≡ whole
@@ -68,13 +68,14 @@ module _ (o : Stroke) (rs : List (Run Endpoint)) (v : List Float) (t : List ℕ)
 
     all-written : Written o rs v t whole
     all-written =
-        let lv = length-vertices o rs in
+        let n = length-vertices o rs in
+        let lv : length (flatV (meshVertices o rs)) ≡ 5 * meshCount o rs = omega (arith, length-flatV (meshVertices o rs)) in
         let lt = length-flatT (meshTriangles o 0 rs) in
         record {
           answer = refl;
-          vertices = rw (← lv) (take-over (meshVertices o rs) v (omega arith));
+          vertices = rw (← lv) (take-over (flatV (meshVertices o rs)) v (omega arith));
           triangles = rw (← lt) (take-over (flatT (meshTriangles o 0 rs)) t (omega arith));
-          vertices-behind = rw (← lv) (drop-over (meshVertices o rs) v);
+          vertices-behind = rw (← lv) (drop-over (flatV (meshVertices o rs)) v);
           triangles-behind = rw (← lt) (drop-over (flatT (meshTriangles o 0 rs)) t);
         }
 

@@ -11,6 +11,10 @@ use borrow.Author.Tests.{le-ltb, ltb-false}
 use Rattle.refusals.specs.Numbers.{numberOf, accepted, vertexRoom, triangleRoom}
 use Rattle.plane.specs.Normal.{pick}
 use Rattle.endpoint.specs.declared.Endpoint.{Endpoint}
+use Rattle.lists.specs.Over.{over}
+use Rattle.pieces.specs.Piece.{flatV, flatT, behind, Lists, lent, Fits, Puts}
+use Rattle.pieces.specs.declared.Place.{Place}
+use Rattle.pieces.proofs.Pieces.{laid-start}
 use Rattle.path.specs.Path.{Sound}
 use Rattle.path.specs.Runs.{Run, runsFrom, pointsOf}
 use Rattle.path.specs.Verbs.{endClosed, names}
@@ -19,13 +23,12 @@ use Rattle.path.proofs.Laws.{count-le}
 use Rattle.points.specs.Points.{endpointsOf}
 use Rattle.points.proofs.Indexed.{points-length}
 use Rattle.course.specs.Leg.{firstShort}
-use Rattle.run.specs.declared.draw.Drawn.{Drawn}
-use Rattle.drive.specs.Passes.{Paired, undrawn, Has, Puts}
-use Rattle.drive.specs.Runs.{runsOf, meshCount, meshTriangles, meshEdges}
-use Rattle.drive.proofs.Runs.{runs-bounded}
+use Rattle.drive.specs.Passes.{Paired, undrawn}
+use Rattle.drive.specs.Runs.{runsOf, meshVertices, meshCount, meshTriangles, meshPiece, meshEdges}
+use Rattle.drive.proofs.Runs.{length-vertices, runs-bounded}
 use Rattle.far.proofs.Path.{no-short}
 use Rattle.mesh.specs.Answer.{withCounts, meshAnswerOf, isMesh, roomedOf, judgedOf, Plenty}
-use Rattle.mesh.specs.Mesh.{roomFor, acceptedOf}
+use Rattle.mesh.specs.Mesh.{Outcome, roomFor, acceptedOf}
 use Rattle.mesh.specs.Parts.{Prepared, Counted}
 use Rattle.mesh.specs.declared.answer.MeshAnswer.{MeshAnswer}
 use Rattle.mesh.specs.declared.answer.Meshed.the-variants.{Mesh}
@@ -56,15 +59,26 @@ module _ (o : Stroke) (vs : List ℕ) (cs : List Float) (s : Sound vs cs) where
   few-triangles : length (meshTriangles o 0 (runsOf vs cs)) ≤ 2 * length cs
   few-triangles = let b = runs-bounded o (runsOf vs cs) in omega (arith, b .triangles, few-vertices)
 
-  pub counts-has : (v : List Float) (t : List ℕ) → Has false o undrawn (runsOf vs cs) v t
-  counts-has v t =
+  pub counts-fit : (l : Lists) → Fits false undrawn (meshPiece o undrawn (runsOf vs cs)) l
+  counts-fit l =
       let f = sound-paired vs cs s .few in
-      record { numbers = omega (arith, few-vertices); faces = omega (arith, few-triangles); space = λ w. absurd (false≢true w) }
+      let n = length-vertices o (runsOf vs cs) in
+      record { numbers = omega (arith, few-vertices); faces = omega (arith, few-triangles); vertices = λ w. absurd (false≢true w); triangles = λ w. absurd (false≢true w) }
 
-  room-has : (v : List Float) (t : List ℕ) → meshCount o (runsOf vs cs) ≤ length v / 5 → length (meshTriangles o 0 (runsOf vs cs)) ≤ length t / 3 → Has true o undrawn (runsOf vs cs) v t
-  room-has v t a b =
-      let h = counts-has v t in
-      record { numbers = h .numbers; faces = h .faces; space = λ w. record { vertices = omega arith; triangles = omega arith } }
+  room-fits : (l : Lists) → meshCount o (runsOf vs cs) ≤ length (l .vertices) / 5 → length (meshTriangles o 0 (runsOf vs cs)) ≤ length (l .triangles) / 3
+      → Fits true undrawn (meshPiece o undrawn (runsOf vs cs)) l
+  room-fits l a b =
+      let h = counts-fit l in
+      let n = length-vertices o (runsOf vs cs) in
+      record { numbers = h .numbers; faces = h .faces; vertices = λ w. omega arith; triangles = λ w. omega arith }
+
+-- what stands behind the last run, and the lists then
+module _ (o : Stroke) (rs : List (Run Endpoint)) where
+  counts-are : (k : Place) → k ≡ behind undrawn (meshPiece o undrawn rs) → (k .vertices ≡ meshCount o rs) × (k .triangles ≡ length (meshTriangles o 0 rs))
+  counts-are k e = rw e (omega (arith, length-vertices o rs), omega arith)
+
+  drawn-is : {l l' : Lists} {k : Place} → Puts true undrawn (meshPiece o undrawn rs) l l' k → l' ≡ lent (over (flatV (meshVertices o rs)) (l .vertices)) (over (flatT (meshTriangles o 0 rs)) (l .triangles))
+  drawn-is {l} e = e .lists refl ∙ laid-start (undrawn .base) (meshPiece o undrawn rs) l
 
 -- it is a mesh only where there is room for both
 roomed-room : (n m nv nt : ℕ) → isMesh (roomedOf n m nv nt) ≡ true → (n ≤ nv) × (m ≤ nt)
@@ -76,9 +90,12 @@ roomed-room n m nv nt e = go (ltb nv n) refl (ltb nt m) refl e
     go false p true q f = absurd (false≢true f)
     go false p false q f = (ltb-false nv n p, ltb-false nt m q)
 
-module _ (o : Stroke) (vs : List ℕ) (cs : List Float) (s : Sound vs cs) (p : Prepared o) (v : List Float) (t : List ℕ) where
+module _ (o : Stroke) (vs : List ℕ) (cs : List Float) (s : Sound vs cs) (p : Prepared o) (l : Lists) where
+  abbrev outcome : Outcome
+  outcome = acceptedOf (l .vertices) (l .triangles) o (runsOf vs cs)
+
   -- no path earns refusal 5
-  room-is : roomFor v t o (runsOf vs cs) ≡ roomedOf (meshCount o (runsOf vs cs)) (length (meshTriangles o 0 (runsOf vs cs))) (length v / 5) (length t / 3)
+  room-is : roomFor (l .vertices) (l .triangles) o (runsOf vs cs) ≡ roomedOf (meshCount o (runsOf vs cs)) (length (meshTriangles o 0 (runsOf vs cs))) (length (l .vertices) / 5) (length (l .triangles) / 3)
   unfolding judgedOf
   room-is =
       let e = no-short (p .options) o vs cs (p .is) s in
@@ -86,52 +103,49 @@ module _ (o : Stroke) (vs : List ℕ) (cs : List Float) (s : Sound vs cs) (p : P
       rw (le-ltb _ _ h)
 
   -- ---- with plenty of room
-  module _ (q : Plenty (record { vertices = length v / 5; triangles = length t / 3 }) (length cs)) where
-    v-room : meshCount o (runsOf vs cs) ≤ length v / 5
+  module _ (q : Plenty (record { vertices = length (l .vertices) / 5; triangles = length (l .triangles) / 3 }) (length cs)) where
+    v-room : meshCount o (runsOf vs cs) ≤ length (l .vertices) / 5
     v-room = omega (arith, q .vertices, few-vertices o vs cs s)
 
-    t-room : length (meshTriangles o 0 (runsOf vs cs)) ≤ length t / 3
+    t-room : length (meshTriangles o 0 (runsOf vs cs)) ≤ length (l .triangles) / 3
     t-room = omega (arith, q .triangles, few-triangles o vs cs s)
 
-    pub plenty-has : Has true o undrawn (runsOf vs cs) v t
-    plenty-has = room-has o vs cs s v t v-room t-room
+    pub plenty-fits : Fits true undrawn (meshPiece o undrawn (runsOf vs cs)) l
+    plenty-fits = room-fits o vs cs s l v-room t-room
 
-    pub plenty-drawn : (v' : List Float) (t' : List ℕ) (d : Drawn) → Puts true o undrawn (runsOf vs cs) v v' t t' d
-        → record { answer = meshAnswerOf (Mesh (d .vertices) (d .triangles)); vertices = v'; triangles = t' } ≡ acceptedOf v t o (runsOf vs cs)
+    pub plenty-drawn : {l' : Lists} {k : Place} → Puts true undrawn (meshPiece o undrawn (runsOf vs cs)) l l' k
+        → record { answer = meshAnswerOf (Mesh (k .vertices) (k .triangles)); vertices = l' .vertices; triangles = l' .triangles } ≡ outcome
     unfolding acceptedOf
-    plenty-drawn v' t' d e =
-        let n : d .vertices ≡ meshCount o (runsOf vs cs) = omega (arith, e .count) in
-        let m : d .triangles ≡ length (meshTriangles o 0 (runsOf vs cs)) = omega (arith, e .faces) in
-        let l = e .lays refl in
-        rw (n, m, room-is, le-ltb _ _ v-room, le-ltb _ _ t-room, l .vertices, l .triangles)
+    plenty-drawn {l'} {k} e =
+        let c = counts-are o (runsOf vs cs) k (e .place) in
+        rw (c .0, c .1, room-is, le-ltb _ _ v-room, le-ltb _ _ t-room, drawn-is o (runsOf vs cs) e)
 
   -- ---- counted first: c is what it needs, and a the answer
-  module _ (c : Drawn) (v1 : List Float) (t1 : List ℕ) (k : Counted o (runsOf vs cs) v v1 t t1 c)
-      (a : MeshAnswer) (j : a ≡ roomedOf (c .vertices) (c .triangles) (length v / 5) (length t / 3)) where
-    answer-is : a ≡ roomFor v t o (runsOf vs cs)
-    answer-is = j ∙ rw (k .count, k .faces) (sym room-is)
+  module _ {c : Place} {l1 : Lists} (k : Counted o (runsOf vs cs) l l1 c) (a : MeshAnswer) (j : a ≡ roomedOf (c .vertices) (c .triangles) (length (l .vertices) / 5) (length (l .triangles) / 3)) where
+    count : (c .vertices ≡ meshCount o (runsOf vs cs)) × (c .triangles ≡ length (meshTriangles o 0 (runsOf vs cs)))
+    count = counts-are o (runsOf vs cs) c (k .place)
 
-    pub mesh-has : isMesh a ≡ true → Has true o undrawn (runsOf vs cs) v1 t1
-    mesh-has e =
-        let r = roomed-room (c .vertices) (c .triangles) (length v / 5) (length t / 3) (ap isMesh (sym j) ∙ e) in
-        rw (k .vertices, k .triangles) (room-has o vs cs s v t (omega (arith, r .0, k .count)) (omega (arith, r .1, k .faces)))
+    answer-is : a ≡ roomFor (l .vertices) (l .triangles) o (runsOf vs cs)
+    answer-is = j ∙ rw (count .0, count .1) (sym room-is)
 
-    pub is-drawn : isMesh a ≡ true → (v' : List Float) (t' : List ℕ) (d : Drawn) → Puts true o undrawn (runsOf vs cs) v1 v' t1 t' d
-        → record { answer = a; vertices = v'; triangles = t' } ≡ acceptedOf v t o (runsOf vs cs)
+    pub mesh-fits : isMesh a ≡ true → Fits true undrawn (meshPiece o undrawn (runsOf vs cs)) l1
+    mesh-fits e =
+        let r = roomed-room (c .vertices) (c .triangles) (length (l .vertices) / 5) (length (l .triangles) / 3) (ap isMesh (sym j) ∙ e) in
+        rw (k .lists) (room-fits o vs cs s l (omega (arith, r .0, count .0)) (omega (arith, r .1, count .1)))
+
+    pub is-drawn : isMesh a ≡ true → {l2 : Lists} {d : Place} → Puts true undrawn (meshPiece o undrawn (runsOf vs cs)) l1 l2 d → record { answer = a; vertices = l2 .vertices; triangles = l2 .triangles } ≡ outcome
     unfolding acceptedOf
-    is-drawn e v' t' d q =
-        let l = rw (k .vertices, k .triangles) at (q .lays refl) in
-        rw (answer-is, ap isMesh (sym answer-is) ∙ e, l .vertices, l .triangles)
+    is-drawn e q = rw (answer-is, ap isMesh (sym answer-is) ∙ e, drawn-is o (runsOf vs cs) q, k .lists)
 
-    pub is-refused : isMesh a ≡ false → record { answer = a; vertices = v1; triangles = t1 } ≡ acceptedOf v t o (runsOf vs cs)
+    pub is-refused : isMesh a ≡ false → record { answer = a; vertices = l1 .vertices; triangles = l1 .triangles } ≡ outcome
     unfolding acceptedOf
-    is-refused e = rw (answer-is, ap isMesh (sym answer-is) ∙ e, k .vertices, k .triangles)
+    is-refused e = rw (answer-is, ap isMesh (sym answer-is) ∙ e, k .lists)
 
--- ---- a part of no places, put back
-pub counted : (o : Stroke) (rs : List (Run Endpoint)) (v v1 v2 : List Float) (t t1 t2 : List ℕ) (d : Drawn) → length v2 ≡ 0 → length t2 ≡ 0
-    → Puts false o undrawn rs v1 v2 t1 t2 d → Counted o rs v (v2 ++ v) t (t2 ++ t) d
-counted o rs v v1 v2 t t1 t2 d lv lt e = record { count = omega (arith, e .count); faces = omega (arith, e .faces); vertices = none v v2 lv; triangles = none t t2 lt }
-  where
-    none : {A : Type 0} (xs ys : List A) → length ys ≡ 0 → ys ++ xs ≡ xs
-    none xs [] e = refl
-    none xs (y ∷ ys) e = absurd (omega (arith, e))
+-- ---- parts of no places, put back
+none-back : {A : Type 0} (xs ys : List A) → length ys ≡ 0 → ys ++ xs ≡ xs
+none-back xs [] e = refl
+none-back xs (y ∷ ys) e = absurd (omega (arith, e))
+
+pub counted : (o : Stroke) (rs : List (Run Endpoint)) (v v2 : List Float) (t t2 : List ℕ) {l1 : Lists} {k : Place} → length v2 ≡ 0 → length t2 ≡ 0
+    → Puts false undrawn (meshPiece o undrawn rs) l1 (lent v2 t2) k → Counted o rs (lent v t) (lent (v2 ++ v) (t2 ++ t)) k
+counted o rs v v2 t t2 lv lt e = record { place = e .place; lists = rw (none-back v v2 lv, none-back t t2 lt) }

@@ -16,8 +16,8 @@ use Rattle.path.specs.declared.options.Stroke.{Stroke}
 use Rattle.points.specs.Points.{endpointsOf}
 use Rattle.course.specs.Joint.{jointsOf}
 use Rattle.course.specs.Kept.{keptPoints}
-use Rattle.strip.specs.Facts.{pairSides}
-use Rattle.strip.specs.Triangle.{flatT}
+use Rattle.pieces.specs.Piece.{flatV, flatT}
+use Rattle.strip.specs.Joint.{pairSides}
 use Rattle.run.specs.Facts.{Counts, Covers}
 use Rattle.run.specs.Run.{drawsCap, shapeCount, shapeTriangles}
 use Rattle.drive.specs.Runs.{runsOf, drawnOf, meshVertices, meshCount, meshTriangles}
@@ -46,7 +46,7 @@ AllStand o base (r ∷ rs) = RunStands o base r × AllStand o (base + shapeCount
 -- what a call leaves where there is room: the answer 0 with both counts, "exactly so many are written", and nothing behind them
 pub record Written (o : Stroke) (rs : List (Run Endpoint)) (v : List Float) (t : List ℕ) (out : Outcome) : Type 0 where
   pub answer : out .answer ≡ withCounts (numberOf accepted) (meshCount o rs) (length (meshTriangles o 0 rs))
-  pub vertices : take (5 * meshCount o rs) (out .vertices) ≡ meshVertices o rs
+  pub vertices : take (5 * meshCount o rs) (out .vertices) ≡ flatV (meshVertices o rs)
   pub triangles : take (3 * length (meshTriangles o 0 rs)) (out .triangles) ≡ flatT (meshTriangles o 0 rs)
   pub vertices-behind : drop (5 * meshCount o rs) (out .vertices) ≡ drop (5 * meshCount o rs) v
   pub triangles-behind : drop (3 * length (meshTriangles o 0 rs)) (out .triangles) ≡ drop (3 * length (meshTriangles o 0 rs)) t

@@ -13,7 +13,7 @@ use Rattle.path.specs.Path.{checkedOf}
 use Rattle.path.specs.Runs.{Run}
 use Rattle.path.specs.declared.options.Options.{Options}
 use Rattle.path.specs.declared.options.Stroke.{Stroke}
-use Rattle.strip.specs.Triangle.{flatT}
+use Rattle.pieces.specs.Piece.{flatV, flatT}
 use Rattle.drive.specs.Runs.{runsOf, meshVertices, meshTriangles, meshCounts}
 use Rattle.mesh.specs.Answer.{withPlace, isMesh, judgedOf}
 use Rattle.mesh.specs.declared.answer.MeshAnswer.{MeshAnswer}
@@ -36,7 +36,7 @@ module _ (v : List Float) (t : List ℕ) where
 
   -- "After 0, list places beyond those counted keep their contents."
   abbrev pub drawn : Stroke → List (Run Endpoint) → Outcome
-  drawn o rs = record { answer = roomFor o rs; vertices = over (meshVertices o rs) v; triangles = over (flatT (meshTriangles o 0 rs)) t }
+  drawn o rs = record { answer = roomFor o rs; vertices = over (flatV (meshVertices o rs)) v; triangles = over (flatT (meshTriangles o 0 rs)) t }
 
   -- of an accepted path
   unfoldable pub acceptedOf : Stroke → List (Run Endpoint) → Outcome

@@ -1,5 +1,5 @@
 // What the mesh call answers.
-use run::draw::Drawn;
+use pieces::Place;
 ghost use mathlib.Core.Bool.{true};
 ghost use mathlib.Core.Path.{_≡_};
 ghost use Rattle.mesh.specs.Answer.{meshAnswerOf, withCounts, withPlace, isMesh, roomedOf, Plenty};
@@ -45,7 +45,7 @@ pub fn is_plenty(r: Rooms, coords: usize) -> bool
 }
 
 // Refusals 6 and 7, by what a path needs. No path earns refusal 5.
-pub fn judged(d: Drawn, r: Rooms) -> Meshed
+pub fn judged(d: Place, r: Rooms) -> Meshed
     ensures { λ a. ⌜ meshAnswerOf a ≡ roomedOf (d .vertices) (d .triangles) (r .vertices) (r .triangles) ⌝ }
 {
     let n = d.vertices;

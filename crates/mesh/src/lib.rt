@@ -13,8 +13,10 @@ use path::options::Options;
 use path::options::Stroke;
 use path::options::Stroked;
 use path::options::stroke_of;
-use run::draw::Drawn;
+use pieces::Index;
+use pieces::Place;
 ghost use mathlib.Core.Path.{_≡_};
+ghost use Rattle.pieces.specs.Piece.{lent};
 ghost use Rattle.path.specs.Path.{Sound};
 ghost use Rattle.drive.specs.Runs.{runsOf};
 ghost use Rattle.mesh.specs.Answer.{meshAnswerOf};
@@ -27,10 +29,10 @@ fn count_accepted(
     coords: &[f32],
     o: Stroke,
     vertices: &mut [f32],
-    triangles: &mut [u16],
-) -> Drawn
+    triangles: &mut [Index],
+) -> Place
     requires { ⌜ Sound (now verbs) (now coords) ⌝ }
-    ensures { λ r. ⌜ Counted o (runsOf (now (verbs .entry)) (now (coords .entry))) (now (vertices .entry)) (now (vertices .exit)) (now (triangles .entry)) (now (triangles .exit)) r ⌝ }
+    ensures { λ r. ⌜ Counted o (runsOf (now (verbs .entry)) (now (coords .entry))) (lent (now (vertices .entry)) (now (triangles .entry))) (lent (now (vertices .exit)) (now (triangles .exit))) r ⌝ }
 {
     draw_runs(
         &mut vertices[..0],
@@ -48,7 +50,7 @@ fn mesh_accepted(
     coords: &[f32],
     o: Stroke,
     vertices: &mut [f32],
-    triangles: &mut [u16],
+    triangles: &mut [Index],
 ) -> Meshed
     requires { ⌜ Prepared o ⌝ }
     requires { ⌜ Sound (now verbs) (now coords) ⌝ }
@@ -75,7 +77,7 @@ fn mesh_stroked(
     coords: &[f32],
     o: Stroke,
     vertices: &mut [f32],
-    triangles: &mut [u16],
+    triangles: &mut [Index],
 ) -> Meshed
     requires { ⌜ Prepared o ⌝ }
     ensures { λ r. ⌜ record { answer = meshAnswerOf r; vertices = now (vertices .exit); triangles = now (triangles .exit) } ≡ strokedOf (now (vertices .entry)) (now (triangles .entry)) (now (verbs .entry)) (now (coords .entry)) o ⌝ }
@@ -95,7 +97,7 @@ pub fn tessellate(
     coords: &[f32],
     options: Options,
     vertices: &mut [f32],
-    triangles: &mut [u16],
+    triangles: &mut [Index],
 ) -> Meshed
     ensures { λ r. ⌜ record { answer = meshAnswerOf r; vertices = now (vertices .exit); triangles = now (triangles .exit) } ≡ outcomeOf (now (verbs .entry)) (now (coords .entry)) options (now (vertices .entry)) (now (triangles .entry)) ⌝ }
 {

@@ -34,12 +34,12 @@ use Rattle.course.specs.Kept.{nearOf, keptBehind, allNear, trimmed, keptPoints}
 use Rattle.course.specs.Leg.{legOf, nextLegOf, legsFrom, legsOf, shortOf, firstShort}
 use Rattle.strip.specs.Joint.{vertexCount, jointVerticesOf, verticesOf}
 use Rattle.strip.specs.Section.{sections}
-use Rattle.strip.specs.Triangle.{flatT, different, triOf, between, stripOf, through}
+use Rattle.strip.specs.Triangle.{different, triOf, between, stripOf, through}
 use Rattle.run.specs.Run.{drawsCap, shapeOf, shapeCount, shapeVertices, shapeTriangles}
 use Rattle.drive.specs.Runs.{meshVertices, meshCount, meshTriangles, meshEdges}
 use Rattle.mesh.specs.Answer.{judgedOf}
 use Rattle.mesh.specs.Mesh.{Outcome, acceptedOf, strokedOf, outcomeOf}
-use Rattle.lists.specs.Over.{over}
+use Rattle.lists.specs.Over.{over, flat}
 use Rattle.path.specs.declared.options.Options.{Options}
 
 -- the patterns of width and miter limit, join and cap
@@ -147,7 +147,7 @@ cases =
     ∷ mesh (pen 0 0) (begin ∷ line ∷ endClosed ∷ []) (0 ∷ 0 ∷ 0x42c80000 ∷ 0 ∷ []) 4 4 0 0 4 4 ∷ []
 
 pub worked : every cases ≡ true
-unfolding every says cases reads after gotOf lastThree lastReplaced computeNormalOf inDomain normalOf floorRoot partsRoot bitsRoot rootOf plusOf minusOf timesOf overOf negatedOf turnedOf dotOf crossOf squareLengthOf lengthOf normalizeOf singleOf pairOf sideLineOf unmovedOf movedOf clippedOf edgeSideOf edgeOf cornerOf inwardOf minOf pastOf overshootsOf foldedOf foldsOf exceededOf tipOf kindOf decidedOf tipPointOf clippedPairOf joinSideOf turnOf innerJoinOf sidePositionsOf baseVertexOf sideVerticesOf capVertexOf capPairOf capVerticesOf vertexOf triangleOf coordinateIn firstOutside within lineJoinOf inRange clipOf preparedOf strokeOf malformed checkedOf runsFrom names placed firstMisplaced endsInside named pointCount endpointsOf dataOf unworkedOf jointOf capOf startCapOf endCapOf jointsFrom jointsOf nearOf keptBehind allNear trimmed keptPoints legOf nextLegOf legsFrom legsOf shortOf firstShort vertexCount jointVerticesOf verticesOf sections flatT different triOf between stripOf through drawsCap shapeOf shapeCount shapeVertices shapeTriangles meshVertices meshCount meshTriangles meshEdges judgedOf acceptedOf strokedOf outcomeOf leadingZeros add sub mul div neg lt eq ne le ofBits toBits over
+unfolding every says cases reads after gotOf lastThree lastReplaced computeNormalOf inDomain normalOf floorRoot partsRoot bitsRoot rootOf plusOf minusOf timesOf overOf negatedOf turnedOf dotOf crossOf squareLengthOf lengthOf normalizeOf singleOf pairOf sideLineOf unmovedOf movedOf clippedOf edgeSideOf edgeOf cornerOf inwardOf minOf pastOf overshootsOf foldedOf foldsOf exceededOf tipOf kindOf decidedOf tipPointOf clippedPairOf joinSideOf turnOf innerJoinOf sidePositionsOf baseVertexOf sideVerticesOf capVertexOf capPairOf capVerticesOf vertexOf triangleOf coordinateIn firstOutside within lineJoinOf inRange clipOf preparedOf strokeOf malformed checkedOf runsFrom names placed firstMisplaced endsInside named pointCount endpointsOf dataOf unworkedOf jointOf capOf startCapOf endCapOf jointsFrom jointsOf nearOf keptBehind allNear trimmed keptPoints legOf nextLegOf legsFrom legsOf shortOf firstShort vertexCount jointVerticesOf verticesOf sections flat different triOf between stripOf through drawsCap shapeOf shapeCount shapeVertices shapeTriangles meshVertices meshCount meshTriangles meshEdges judgedOf acceptedOf strokedOf outcomeOf leadingZeros add sub mul div neg lt eq ne le ofBits toBits over
 worked = refl
 
 -- the program's example, `M0 1L2 1`: its four vertices, with their normals and advancements, and its triangles
@@ -158,10 +158,10 @@ pub written : map (toBits binary32) (line-example .vertices) ≡ 0 ∷ 0x4000000
     ∷ 0 ∷ 0 ∷ 0 ∷ 0xbf800000 ∷ 0
     ∷ 0x40000000 ∷ 0x40000000 ∷ 0 ∷ 0x3f800000 ∷ 0x40000000
     ∷ 0x40000000 ∷ 0 ∷ 0 ∷ 0xbf800000 ∷ 0x40000000 ∷ []
-unfolding line-example normalOf floorRoot partsRoot bitsRoot rootOf plusOf minusOf timesOf overOf negatedOf turnedOf dotOf crossOf squareLengthOf lengthOf normalizeOf singleOf pairOf sideLineOf unmovedOf movedOf clippedOf edgeSideOf edgeOf cornerOf inwardOf minOf pastOf overshootsOf foldedOf foldsOf exceededOf tipOf kindOf decidedOf tipPointOf clippedPairOf joinSideOf turnOf innerJoinOf sidePositionsOf baseVertexOf sideVerticesOf capVertexOf capPairOf capVerticesOf vertexOf triangleOf coordinateIn firstOutside within lineJoinOf inRange clipOf preparedOf strokeOf malformed checkedOf runsFrom names placed firstMisplaced endsInside named pointCount endpointsOf dataOf unworkedOf jointOf capOf startCapOf endCapOf jointsFrom jointsOf nearOf keptBehind allNear trimmed keptPoints legOf nextLegOf legsFrom legsOf shortOf firstShort vertexCount jointVerticesOf verticesOf sections flatT different triOf between stripOf through drawsCap shapeOf shapeCount shapeVertices shapeTriangles meshVertices meshCount meshTriangles meshEdges judgedOf acceptedOf strokedOf outcomeOf leadingZeros add sub mul div neg lt eq ne le ofBits toBits over
+unfolding line-example normalOf floorRoot partsRoot bitsRoot rootOf plusOf minusOf timesOf overOf negatedOf turnedOf dotOf crossOf squareLengthOf lengthOf normalizeOf singleOf pairOf sideLineOf unmovedOf movedOf clippedOf edgeSideOf edgeOf cornerOf inwardOf minOf pastOf overshootsOf foldedOf foldsOf exceededOf tipOf kindOf decidedOf tipPointOf clippedPairOf joinSideOf turnOf innerJoinOf sidePositionsOf baseVertexOf sideVerticesOf capVertexOf capPairOf capVerticesOf vertexOf triangleOf coordinateIn firstOutside within lineJoinOf inRange clipOf preparedOf strokeOf malformed checkedOf runsFrom names placed firstMisplaced endsInside named pointCount endpointsOf dataOf unworkedOf jointOf capOf startCapOf endCapOf jointsFrom jointsOf nearOf keptBehind allNear trimmed keptPoints legOf nextLegOf legsFrom legsOf shortOf firstShort vertexCount jointVerticesOf verticesOf sections flat different triOf between stripOf through drawsCap shapeOf shapeCount shapeVertices shapeTriangles meshVertices meshCount meshTriangles meshEdges judgedOf acceptedOf strokedOf outcomeOf leadingZeros add sub mul div neg lt eq ne le ofBits toBits over
 written = refl
 
 -- the seventh number was not asked for, and is left as it was
 pub faced : line-example .triangles ≡ 1 ∷ 0 ∷ 2 ∷ 1 ∷ 2 ∷ 3 ∷ 9 ∷ []
-unfolding line-example normalOf floorRoot partsRoot bitsRoot rootOf plusOf minusOf timesOf overOf negatedOf turnedOf dotOf crossOf squareLengthOf lengthOf normalizeOf singleOf pairOf sideLineOf unmovedOf movedOf clippedOf edgeSideOf edgeOf cornerOf inwardOf minOf pastOf overshootsOf foldedOf foldsOf exceededOf tipOf kindOf decidedOf tipPointOf clippedPairOf joinSideOf turnOf innerJoinOf sidePositionsOf baseVertexOf sideVerticesOf capVertexOf capPairOf capVerticesOf vertexOf triangleOf coordinateIn firstOutside within lineJoinOf inRange clipOf preparedOf strokeOf malformed checkedOf runsFrom names placed firstMisplaced endsInside named pointCount endpointsOf dataOf unworkedOf jointOf capOf startCapOf endCapOf jointsFrom jointsOf nearOf keptBehind allNear trimmed keptPoints legOf nextLegOf legsFrom legsOf shortOf firstShort vertexCount jointVerticesOf verticesOf sections flatT different triOf between stripOf through drawsCap shapeOf shapeCount shapeVertices shapeTriangles meshVertices meshCount meshTriangles meshEdges judgedOf acceptedOf strokedOf outcomeOf leadingZeros add sub mul div neg lt eq ne le ofBits toBits over
+unfolding line-example normalOf floorRoot partsRoot bitsRoot rootOf plusOf minusOf timesOf overOf negatedOf turnedOf dotOf crossOf squareLengthOf lengthOf normalizeOf singleOf pairOf sideLineOf unmovedOf movedOf clippedOf edgeSideOf edgeOf cornerOf inwardOf minOf pastOf overshootsOf foldedOf foldsOf exceededOf tipOf kindOf decidedOf tipPointOf clippedPairOf joinSideOf turnOf innerJoinOf sidePositionsOf baseVertexOf sideVerticesOf capVertexOf capPairOf capVerticesOf vertexOf triangleOf coordinateIn firstOutside within lineJoinOf inRange clipOf preparedOf strokeOf malformed checkedOf runsFrom names placed firstMisplaced endsInside named pointCount endpointsOf dataOf unworkedOf jointOf capOf startCapOf endCapOf jointsFrom jointsOf nearOf keptBehind allNear trimmed keptPoints legOf nextLegOf legsFrom legsOf shortOf firstShort vertexCount jointVerticesOf verticesOf sections flat different triOf between stripOf through drawsCap shapeOf shapeCount shapeVertices shapeTriangles meshVertices meshCount meshTriangles meshEdges judgedOf acceptedOf strokedOf outcomeOf leadingZeros add sub mul div neg lt eq ne le ofBits toBits over
 faced = refl

@@ -2,7 +2,7 @@
 use mathlib.Core.Path.{refl}
 use lib.Count.{leadingZeros}
 use lib.Ieee.{sub, mul, div, le, ofBits, toBits, ofInt}
-use Rattle.lists.specs.Over.{over}
+use Rattle.lists.specs.Over.{over, flat}
 use Rattle.root.specs.Compute.{floorRoot, partsRoot, bitsRoot, rootOf}
 use Rattle.plane.specs.Vector.{plusOf, minusOf, timesOf, overOf, negatedOf, turnedOf, squareLengthOf, lengthOf}
 use Rattle.endpoint.specs.Endpoint.{singleOf}
@@ -20,7 +20,7 @@ use Rattle.course.specs.Kept.{nearOf, keptBehind, keptPoints}
 use Rattle.course.specs.Leg.{legOf, legsFrom, legsOf, shortOf, firstShort}
 use Rattle.strip.specs.Joint.{vertexCount, jointVerticesOf, verticesOf}
 use Rattle.strip.specs.Section.{sections}
-use Rattle.strip.specs.Triangle.{flatT, different, triOf, between, stripOf, through}
+use Rattle.strip.specs.Triangle.{different, triOf, between, stripOf, through}
 use Rattle.run.specs.Run.{shapeOf, shapeCount, shapeVertices, shapeTriangles}
 use Rattle.drive.specs.Runs.{meshVertices, meshCount, meshTriangles, meshEdges}
 use Rattle.mesh.specs.Answer.{judgedOf}
@@ -54,7 +54,7 @@ unfolding dataOf capOf startCapOf endCapOf jointsFrom jointsOf nearOf keptBehind
 runs = tt
 
 meshes : Unit {0}
-unfolding vertexCount jointVerticesOf verticesOf sections flatT different triOf between stripOf through shapeOf shapeCount shapeVertices shapeTriangles meshVertices meshCount meshTriangles meshEdges
+unfolding vertexCount jointVerticesOf verticesOf sections flat different triOf between stripOf through shapeOf shapeCount shapeVertices shapeTriangles meshVertices meshCount meshTriangles meshEdges
 meshes = tt
 
 calls : Unit {0}

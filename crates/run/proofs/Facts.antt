@@ -13,9 +13,10 @@ use Rattle.path.specs.declared.options.Stroke.{Stroke}
 use Rattle.course.specs.Kept.{keptPoints}
 use Rattle.course.specs.Joint.{jointsOf}
 use Rattle.course.proofs.Lengths.{kept-few, joints-length}
-use Rattle.strip.specs.Facts.{In, AllOwn, Names, here, there, shared, Linked, pairSides}
-use Rattle.strip.specs.Joint.{vertexCount}
-use Rattle.strip.specs.Triangle.{Tri, trianglesOf}
+use Rattle.triangles.specs.Facts.{In, AllOwn, Names, here, there, shared, Linked}
+use Rattle.triangles.specs.Tri.{Tri}
+use Rattle.strip.specs.Joint.{vertexCount, pairSides}
+use Rattle.strip.specs.Triangle.{trianglesOf}
 use Rattle.strip.proofs.Joints.{side-few}
 use Rattle.strip.proofs.Facts.Counts.{vertices-are, open-count, closed-count}
 use Rattle.strip.proofs.Facts.Owns.{open-own, closed-own}

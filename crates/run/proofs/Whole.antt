@@ -1,4 +1,4 @@
--- A run's lists, from what the writers of its joints put there. Assumes nothing.
+-- A run's pieces, from what the writers of its joints put there. Assumes nothing.
 use Prim.Native.Nat.{ℕ, _+_, _-_, _*_, _/_, _≤_, _<_}
 use mathlib.Core.Path.{_≡_, refl, sym, ap, _∙_}
 use mathlib.Core.Bool.{Bool, true, false, cond}
@@ -13,10 +13,14 @@ use Rattle.endpoint.specs.declared.Endpoint.{Endpoint}
 use Rattle.endpoint.specs.declared.EndpointData.{EndpointData}
 use Rattle.vertices.specs.Cap.{capVerticesOf, capTrianglesOf}
 use Rattle.vertices.specs.Vertex.{triangleOf}
-use Rattle.vertices.proofs.Laws.{length-pair}
+use Rattle.vertices.proofs.Laws.{length-cap}
 use Rattle.lists.specs.Over.{over}
-use Rattle.lists.proofs.Laws.{over-none, length-over, over-append}
-use Rattle.lists.proofs.Parts.{part-is, put-is}
+use Rattle.lists.proofs.Parts.{part-is, put-part}
+use Rattle.pieces.specs.Limits.{numberLimit}
+use Rattle.pieces.specs.Piece.{flatV, flatT, Piece, joined, behind, nextVertex, Lists, lent, laid, Fits, Puts, Lays}
+use Rattle.pieces.specs.declared.Place.{Place}
+use Rattle.pieces.proofs.Pieces.{puts-both, fits-front, fits-back, laid-triangles, laid-parts}
+use Rattle.pieces.proofs.Pieces as pieces
 use Rattle.path.specs.declared.options.Stroke.{Stroke}
 use Rattle.course.proofs.Lengths.{joints-length}
 use Rattle.course.specs.Kept.{keptPoints}
@@ -25,56 +29,46 @@ use Rattle.points.specs.Points.{endpointsOf, endpointAt}
 use Rattle.points.specs.Kept.{FirstFar, Ended, runFrom}
 use Rattle.points.proofs.Indexed.{points-length}
 use Rattle.points.proofs.Laws.{kept-far, kept-alone, kept-ended}
-use Rattle.strip.specs.Joint.{vertexCount}
-use Rattle.strip.specs.Strip.{Has, Puts, startOf, trianglesFrom, stepsOf}
-use Rattle.strip.specs.Triangle.{Tri, flatT, between, trianglesOf}
+use Rattle.strip.specs.Joint.{vertexCount, verticesOf}
+use Rattle.strip.specs.Strip.{Has, startOf, stepsOf, pieceOf}
+use Rattle.strip.specs.Strip as strip
+use Rattle.strip.specs.Triangle.{between, trianglesOf}
 use Rattle.strip.specs.declared.Strip.{Strip}
 use Rattle.strip.proofs.Facts.Counts.{closed-count}
 use Rattle.strip.proofs.Joints.{length-vertices}
+use Rattle.strip.proofs.Pending.{puts-piece}
 use Rattle.strip.proofs.Runs.{triangles-are}
-use Rattle.strip.proofs.Steps.{steps-vertices, steps-triangles, sound-start, sound-steps}
-use Rattle.strip.proofs.Triangles.{flatT-append, length-flatT}
-use Rattle.run.specs.Run.{Shape, nothing, emptyCap, along, shapeCount, shapeVertices, shapeTriangles, shapeOfKept, shapeOf, Drawing, Place, Draws}
-use Rattle.run.specs.Strips.{Rounds, roundedOf}
+use Rattle.strip.proofs.Steps.{sound-start, sound-steps}
+use Rattle.run.specs.Run.{Shape, nothing, emptyCap, along, shapeCount, shapeVertices, shapeTriangles, shapeOfKept, shapeOf, shapePiece}
+use Rattle.run.specs.Strips.{roundPiece, Rounds, roundedOf}
 
-length-all : (closed : Bool) (base : ℕ) (js : List EndpointData)
-    → length (trianglesOf closed base js) ≡ length (trianglesFrom (startOf base) js) + length (cond closed (between (stepsOf (startOf base) js .last) (stepsOf (startOf base) js .first)) [])
-length-all closed base js = ap length (triangles-are closed base js) ∙ length-append (trianglesFrom (startOf base) js) (cond closed (between (stepsOf (startOf base) js .last) (stepsOf (startOf base) js .first)) [])
+-- ---- a strip is what its steps bring and, in a closed run, what comes on the way round
+module _ (o : Stroke) (k : Place) (js : List EndpointData) where
+  open-is : shapePiece o false k (along js) ≡ pieceOf (startOf k) js
+  unfolding shapeVertices shapeTriangles
+  open-is = rw (triangles-are false k js, append-nil)
 
-pub place-has : (write closed : Bool) (base : ℕ) (js : List EndpointData) (v : List Float) (t : List ℕ) → Place write closed base (along js) v t → Has write (startOf base) js v t
-unfolding shapeCount shapeTriangles
-place-has write closed base js v t p =
-    let n = length-all closed base js in
-    let a = p .numbers in
-    let f = p .faces in
-    record {
-      sound = sound-start base;
-      numbers = omega arith;
-      faces = omega arith;
-      space = λ w. record { sound = sound-start base; numbers = omega arith; vertices = omega (arith, p .room w .vertices); triangles = omega (arith, p .room w .triangles) };
-    }
+  closed-is : shapePiece o true k (along js) ≡ joined (pieceOf (startOf k) js) (roundPiece (stepsOf (startOf k) js))
+  unfolding shapeVertices shapeTriangles
+  closed-is = rw (triangles-are true k js, append-nil (verticesOf js))
 
-pub draws-open : (write : Bool) (o : Stroke) (base : ℕ) (js : List EndpointData) (v v' : List Float) (t t' : List ℕ) (s : Strip) → Puts write js (startOf base) v v' t t' s
-    → Draws write o false base (along js) v v' t t' (s .vertices) (s .triangles)
-unfolding shapeCount shapeVertices shapeTriangles
-draws-open write o base js v v' t t' s e =
-    let z : trianglesOf false base js ≡ trianglesFrom (startOf base) js = triangles-are false base js ∙ append-nil (trianglesFrom (startOf base) js) in
-    record {
-      count = ap (λ (x : Strip). x .vertices) (e .state) ∙ steps-vertices (startOf base) js ∙ omega arith;
-      faces = ap (λ (x : Strip). x .triangles) (e .state) ∙ steps-triangles (startOf base) js ∙ omega (arith, ap (length {A = Tri}) z);
-      drawing = λ w. record { vertices = e .lays w .vertices; triangles = e .lays w .triangles ∙ ap (λ (l : List Tri). over (flatT l) t) (sym z) };
-    }
+  module _ {write : Bool} {l : Lists} where
+    pub open-has : Fits write k (shapePiece o false k (along js)) l → Has write (startOf k) js l
+    open-has h = record { sound = sound-start k; fits = rw open-is at h }
+
+    pub closed-has : Fits write k (shapePiece o true k (along js)) l → Has write (startOf k) js l
+    closed-has h = record { sound = sound-start k; fits = fits-front (pieceOf (startOf k) js) (roundPiece (stepsOf (startOf k) js)) (rw closed-is at h) }
+
+    pub open-drawn : {l' : Lists} {s : Strip} → strip.Puts write js (startOf k) l l' s → Puts write k (shapePiece o false k (along js)) l l' (s .place)
+    open-drawn e = rw open-is (puts-piece e)
 
 -- ---- round to the first section
-close-part : (s : Strip) (t : List ℕ) → Rounds s t → 3 * s .triangles ≤ length t
-close-part s t h = omega (arith, h .room)
+pub close-room : (s : Strip) (t : List ℕ) → Rounds s t → 3 * length (between (s .last) (s .first)) ≤ length (midOf (3 * s .place .triangles) (length t - 3 * s .place .triangles) t)
+close-room s t h = rw (part-is t (3 * s .place .triangles) (omega (arith, h .room))) (simp length-drop (omega (arith, h .room)))
 
-pub close-room : (s : Strip) (t : List ℕ) → Rounds s t → 3 * length (between (s .last) (s .first)) ≤ length (midOf (3 * s .triangles) (length t - 3 * s .triangles) t)
-close-room s t h = rw (part-is t (3 * s .triangles) (close-part s t h)) (simp length-drop (omega (arith, h .room)))
-
-pub rounded : (s : Strip) (t : List ℕ) → Rounds s t → (t2 : List ℕ) → t2 ≡ over (flatT (between (s .last) (s .first))) (midOf (3 * s .triangles) (length t - 3 * s .triangles) t)
-    → putMid (3 * s .triangles) (length t - 3 * s .triangles) t t2 ≡ roundedOf s t
-rounded s t h t2 e = rw (put-is t t2 (3 * s .triangles) (close-part s t h), e, part-is t (3 * s .triangles) (close-part s t h))
+pub rounded : (s : Strip) (t : List ℕ) → Rounds s t → (t2 : List ℕ) → t2 ≡ over (flatT (between (s .last) (s .first))) (midOf (3 * s .place .triangles) (length t - 3 * s .place .triangles) t)
+    → putMid (3 * s .place .triangles) (length t - 3 * s .place .triangles) t t2 ≡ roundedOf s t
+rounded s t h t2 e = put-part t t2 (flatT (between (s .last) (s .first))) (3 * s .place .triangles) (omega (arith, h .room)) e
 
 -- a closed run has a joint to each of its points, two at least
 pub two-joints : (o : Stroke) (p q : Endpoint) (ks : List Endpoint) → 2 ≤ length (jointsOf true o (p ∷ q ∷ ks))
@@ -86,73 +80,81 @@ all-named base [] h = absurd (omega arith)
 all-named base (j ∷ []) h = absurd (omega arith)
 all-named base (j ∷ i ∷ js) h = closed-count base j i js
 
-module _ (write : Bool) (o : Stroke) (base : ℕ) (js : List EndpointData) (v v' : List Float) (t t' : List ℕ) (s : Strip)
-    (pl : Place write true base (along js) v t) (e : Puts write js (startOf base) v v' t t' s) where
-  so-far : s .triangles ≡ length (trianglesFrom (startOf base) js)
-  so-far = ap (λ (x : Strip). x .triangles) (e .state) ∙ steps-triangles (startOf base) js ∙ omega arith
+module _ {write : Bool} (o : Stroke) {k : Place} {js : List EndpointData} {l : Lists} {v1 : List Float} {t1 : List ℕ} {s : Strip}
+    (h : Fits write k (shapePiece o true k (along js)) l) (e : strip.Puts write js (startOf k) l (lent v1 t1) s) where
+  is-round : shapePiece o true k (along js) ≡ joined (pieceOf (startOf k) js) (roundPiece s)
+  is-round = rw (e .state) (closed-is o k js)
 
-  same-sections : between (s .last) (s .first) ≡ between (stepsOf (startOf base) js .last) (stepsOf (startOf base) js .first)
-  same-sections = ap (λ (x : Strip). between (x .last) (x .first)) (e .state)
+  round-fits : Fits write (s .place) (roundPiece s) (lent v1 t1)
+  round-fits = fits-back (pieceOf (startOf k) js) (roundPiece s) (rw is-round at h) (puts-piece e)
 
-  pub rounds : write ≡ true → Rounds s t'
-  unfolding shapeCount shapeTriangles
-  rounds w =
-      let same : length t' ≡ length t = ap length (e .lays w .triangles) ∙ length-over (flatT (trianglesFrom (startOf base) js)) t in
-      let n = length-all true base js in
-      let m = ap (length {A = Tri}) same-sections in
-      record {
-        sound = rw (e .state) (sound-steps (startOf base) js (sound-start base) (omega (arith, pl .numbers)));
-        few = omega (arith, so-far, pl .faces);
-        room = omega (arith, so-far, pl .room w .triangles);
-      }
+  pub rounds : write ≡ true → Rounds s t1
+  rounds w = record {
+    sound = rw (e .state) (sound-steps (startOf k) js (sound-start k) (closed-has o k js h .fits .numbers));
+    few = omega (arith, round-fits .faces);
+    room = round-fits .triangles w;
+  }
 
-  pub draws-closed : 2 ≤ length js → (t2 : List ℕ) → (write ≡ true → t2 ≡ roundedOf s t') → Draws write o true base (along js) v v' t t2 (s .vertices) (s .vertices)
-  unfolding shapeCount shapeVertices shapeTriangles
-  draws-closed two t2 et =
-      let l : length (flatT (trianglesFrom (startOf base) js)) ≡ 3 * s .triangles = omega (arith, length-flatT (trianglesFrom (startOf base) js), so-far) in
-      let z : trianglesOf true base js ≡ trianglesFrom (startOf base) js ++ between (s .last) (s .first) = rw same-sections (triangles-are true base js) in
-      let n : s .vertices ≡ vertexCount js = ap (λ (x : Strip). x .vertices) (e .state) ∙ steps-vertices (startOf base) js ∙ omega arith in
-      record {
-        count = n;
-        faces = n ∙ sym (all-named base js two);
-        drawing = λ w.
-            let fits : length (flatT (trianglesFrom (startOf base) js)) ≤ length t = omega (arith, l, so-far, length-all true base js, pl .room w .triangles) in
-            record {
-              vertices = e .lays w .vertices;
-              triangles = et w ∙ rw (z, flatT-append, over-append (flatT (trianglesFrom (startOf base) js)) (flatT (between (s .last) (s .first))) t fits, l, e .lays w .triangles);
-            };
-      }
+  -- where it ends
+  pub end-is : 2 ≤ length js → (s .place .vertices ≡ k .vertices + vertexCount js) × (nextVertex k + vertexCount js < numberLimit) × (k .triangles + vertexCount js < numberLimit)
+  unfolding shapeVertices shapeTriangles
+  end-is two =
+      let a = ap (λ (x : Place). x .vertices) (puts-piece e .place) in
+      let n = length-vertices js in
+      let m = all-named (nextVertex k) js two in
+      (omega arith, omega (arith, h .numbers), omega (arith, h .faces))
 
--- ---- five floats to a vertex
-pub length-shape : (o : Stroke) (s : Shape) → length (shapeVertices o s) ≡ 5 * shapeCount s
-unfolding shapeVertices shapeCount capVerticesOf
+  pub closed-drawn : 2 ≤ length js → (t2 : List ℕ) → (write ≡ true → t2 ≡ roundedOf s t1)
+      → Puts write k (shapePiece o true k (along js)) l (lent v1 t2) (record { base = k .base; vertices = s .place .vertices; triangles = k .triangles + (s .place .vertices - k .vertices) })
+  unfolding shapeVertices shapeTriangles
+  closed-drawn two t2 et =
+      let b : Puts write k (joined (pieceOf (startOf k) js) (roundPiece s)) l (lent v1 t2) (behind (s .place) (roundPiece s)) =
+      puts-both (puts-piece e) (record { place = refl; lists = λ w. laid-triangles (s .place) (between (s .last) (s .first)) v1 t1 t2 (et w) }) in
+      let n : s .place .vertices ≡ k .vertices + length (verticesOf js) = omega (arith, end-is two .0, length-vertices js) in
+      let m : k .triangles + (s .place .vertices - k .vertices) ≡ k .triangles + length (trianglesOf true (nextVertex k) js) = omega (arith, end-is two .0, all-named (nextVertex k) js two) in
+      record { place = rw (m, n); lists = λ w. b .lists w ∙ ap (λ (p : Piece). laid k p l) (sym is-round) }
+
+-- ---- how many
+pub length-shape : (o : Stroke) (s : Shape) → length (shapeVertices o s) ≡ shapeCount s
+unfolding shapeVertices shapeCount
 length-shape o nothing = refl
-length-shape o (emptyCap p) = rw (length-append, length-pair, length-pair)
+length-shape o (emptyCap p) = length-cap (p .position) (o .«half_width») (f32 0)
 length-shape o (along js) = length-vertices js
 
 -- ---- one kept point
-pub draws-nothing : (write : Bool) (o : Stroke) (closed : Bool) (base : ℕ) (v : List Float) (t : List ℕ) → Draws write o closed base nothing v v t t 0 0
-unfolding shapeCount shapeVertices shapeTriangles flatT
-draws-nothing write o closed base v t = record { count = refl; faces = refl; drawing = λ w. record { vertices = sym (over-none v); triangles = sym (over-none t) } }
+pub nothing-drawn : (o : Stroke) (closed : Bool) {write : Bool} {k : Place} {l : Lists} → Puts write k (shapePiece o closed k nothing) l l k
+unfolding shapeVertices shapeTriangles
+nothing-drawn o closed = pieces.puts-none
 
-pub cap-drawing : (o : Stroke) (base : ℕ) (p : Endpoint) (v v' : List Float) (t t' : List ℕ)
-    → (v' ≡ over (capVerticesOf (p .position) (o .«half_width») (f32 0)) v) × (t' ≡ over (capTrianglesOf (record { 0 = base })) t) → Drawing o false base (emptyCap p) v v' t t'
-unfolding shapeVertices shapeTriangles flatT capTrianglesOf triangleOf
-cap-drawing o base p v v' t t' h = record { vertices = h .0; triangles = h .1 }
+module _ (o : Stroke) (closed : Bool) (k : Place) (p : Endpoint) where
+  -- an empty cap is the same whether its run is closed or not
+  pub cap-is : shapePiece o closed k (emptyCap p) ≡ record { vertices = capVerticesOf (p .position) (o .«half_width») (f32 0); triangles = capTrianglesOf (record { 0 = nextVertex k }) }
+  unfolding shapeVertices shapeTriangles capTrianglesOf triangleOf
+  cap-is = refl
 
-pub cap-room : (base : ℕ) (p : Endpoint) (v : List Float) (t : List ℕ) → Place true false base (emptyCap p) v t → (20 ≤ length v) × (6 ≤ length t) × (base + 4 ≤ 65536)
-unfolding shapeCount shapeTriangles
-cap-room base p v t h = (h .room refl .vertices, h .room refl .triangles, omega (arith, h .numbers))
+  pub cap-fits : {write : Bool} {l : Lists} → Fits write k (shapePiece o closed k (emptyCap p)) l → Fits write k (shapePiece o false k (emptyCap p)) l
+  unfolding shapeTriangles
+  cap-fits h = h
 
--- an empty cap is the same whether its run is closed or not
-pub cap-place : (write closed : Bool) (base : ℕ) (p : Endpoint) (v : List Float) (t : List ℕ) → Place write closed base (emptyCap p) v t → Place write false base (emptyCap p) v t
-unfolding shapeTriangles
-cap-place write closed base p v t h = record { numbers = h .numbers; faces = h .faces; room = λ w. record { vertices = h .room w .vertices; triangles = h .room w .triangles } }
+  pub cap-few : {write : Bool} {l : Lists} → Fits write k (shapePiece o closed k (emptyCap p)) l → (nextVertex k + 4 < numberLimit) × (k .triangles + 2 < numberLimit)
+  unfolding shapeVertices shapeTriangles
+  cap-few h = (omega (arith, h .numbers, length-cap (p .position) (o .«half_width») (f32 0)), omega (arith, h .faces))
 
-pub draws-cap : (write : Bool) (o : Stroke) (closed : Bool) (base : ℕ) (p : Endpoint) (v v' : List Float) (t t' : List ℕ)
-    → (write ≡ true → Drawing o false base (emptyCap p) v v' t t') → Draws write o closed base (emptyCap p) v v' t t' 4 2
-unfolding shapeCount shapeTriangles
-draws-cap write o closed base p v v' t t' h = record { count = refl; faces = refl; drawing = λ w. record { vertices = h w .vertices; triangles = h w .triangles } }
+  pub cap-room : (v : List Float) (t : List ℕ) → Fits true k (shapePiece o closed k (emptyCap p)) (lent v t) → (5 * k .vertices + 20 ≤ length v) × (3 * k .triangles + 6 ≤ length t)
+  unfolding shapeVertices shapeTriangles
+  cap-room v t h = (omega (arith, h .vertices refl, length-cap (p .position) (o .«half_width») (f32 0)), omega (arith, h .triangles refl))
+
+  pub cap-laid : (v v' : List Float) (t t' : List ℕ) → Fits true k (shapePiece o closed k (emptyCap p)) (lent v t)
+      → (v' ≡ over (flatV (capVerticesOf (p .position) (o .«half_width») (f32 0))) (midOf (5 * k .vertices) (length v - 5 * k .vertices) v))
+      × (t' ≡ over (flatT (capTrianglesOf (record { 0 = nextVertex k }))) (midOf (3 * k .triangles) (length t - 3 * k .triangles) t))
+      → lent (putMid (5 * k .vertices) (length v - 5 * k .vertices) v v') (putMid (3 * k .triangles) (length t - 3 * k .triangles) t t') ≡ laid k (shapePiece o closed k (emptyCap p)) (lent v t)
+  unfolding shapeVertices shapeTriangles capTrianglesOf triangleOf
+  cap-laid v v' t t' h e = laid-parts k (shapePiece o closed k (emptyCap p)) v v' t t' h (e .0) (e .1)
+
+  pub cap-drawn : {write : Bool} {l l' : Lists} → Lays write k (shapePiece o false k (emptyCap p)) l l'
+      → Puts write k (shapePiece o closed k (emptyCap p)) l l' (record { base = k .base; vertices = k .vertices + 4; triangles = k .triangles + 2 })
+  unfolding shapeVertices shapeTriangles
+  cap-drawn h = record { place = rw (length-cap (p .position) (o .«half_width») (f32 0)); lists = h }
 
 -- ---- the kept points of a run whose coordinates are p
 pub alone-shape : (o : Stroke) (closed lines : Bool) (p : List Float) (first i : ℕ) → 2 ≤ length p → FirstFar p first i → length p / 2 ≤ i

@@ -3,8 +3,8 @@ use Prim.Native.Nat.{ℕ, zero, suc, _+_, _-_, _*_}
 use mathlib.Core.Path.{_≡_}
 use mathlib.Core.Bool.{Bool, cond}
 use mathlib.Core.List.{List}
-use Rattle.strip.specs.Facts.{In, AllOwn, Names, Linked}
-use Rattle.strip.specs.Triangle.{Tri}
+use Rattle.triangles.specs.Facts.{In, AllOwn, Names, Linked}
+use Rattle.triangles.specs.Tri.{Tri}
 
 -- "an open run of n at least 2 with d pair sides has 2n+d vertices and 2(n-1)+d triangles, a closed one 2n+d and 2n+d"
 pub record Numbers (closed : Bool) (n d v t : ℕ) : Type 0 where

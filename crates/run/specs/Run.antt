@@ -1,21 +1,21 @@
 -- What a run draws. Assumes nothing.
-use Prim.Native.Nat.{ℕ, _+_, _*_, _≤_, _<_}
-use mathlib.Core.Path.{_≡_}
-use mathlib.Core.Bool.{Bool, true, _&&_, _||_, cond}
+use Prim.Native.Nat.{ℕ, _+_}
+use mathlib.Core.Bool.{Bool, _&&_, _||_, cond}
 use mathlib.Core.List.{List, [], _∷_}
 use lib.Dec.{ltb}
-use lib.Ieee.{Float}
 use lib.ListN.{length}
 use Rattle.plane.specs.F32.{f32}
 use Rattle.endpoint.specs.declared.Endpoint.{Endpoint}
 use Rattle.endpoint.specs.declared.EndpointData.{EndpointData}
+use Rattle.triangles.specs.Tri.{Tri}
+use Rattle.pieces.specs.Piece.{Vertex, Piece, nextVertex}
+use Rattle.pieces.specs.declared.Place.{Place}
 use Rattle.path.specs.declared.options.Stroke.{Stroke}
 use Rattle.vertices.specs.Cap.{capVerticesOf}
 use Rattle.course.specs.Kept.{keptPoints}
 use Rattle.course.specs.Joint.{jointsOf}
-use Rattle.lists.specs.Over.{over}
 use Rattle.strip.specs.Joint.{vertexCount, verticesOf}
-use Rattle.strip.specs.Triangle.{Tri, flatT, trianglesOf}
+use Rattle.strip.specs.Triangle.{trianglesOf}
 
 -- nothing, the empty cap at a point, or a strip along joints
 pub data Shape : Type 0 where
@@ -43,7 +43,7 @@ shapeCount (emptyCap p) = 4
 shapeCount (along js) = vertexCount js
 
 -- its vertices. "Its advancement is 0": an empty cap's
-unfoldable pub shapeVertices : Stroke → Shape → List Float
+unfoldable pub shapeVertices : Stroke → Shape → List Vertex
 shapeVertices o nothing = []
 shapeVertices o (emptyCap p) = capVerticesOf (p .position) (o .«half_width») (f32 0)
 shapeVertices o (along js) = verticesOf js
@@ -54,24 +54,6 @@ shapeTriangles closed base nothing = []
 shapeTriangles closed base (emptyCap p) = record { a = base; b = base + 1; c = base + 2 } ∷ record { a = base; b = base + 2; c = base + 3 } ∷ []
 shapeTriangles closed base (along js) = trianglesOf closed base js
 
--- v and t have room for a shape whose vertices are numbered from base
-pub record Room (closed : Bool) (base : ℕ) (s : Shape) (v : List Float) (t : List ℕ) : Type 0 where
-  pub vertices : 5 * shapeCount s ≤ length v
-  pub triangles : 3 * length (shapeTriangles closed base s) ≤ length t
-
--- it is drawn at the start of v and t
-pub record Drawing (o : Stroke) (closed : Bool) (base : ℕ) (s : Shape) (v v' : List Float) (t t' : List ℕ) : Type 0 where
-  pub vertices : v' ≡ over (shapeVertices o s) v
-  pub triangles : t' ≡ over (flatT (shapeTriangles closed base s)) t
-
--- what a pass over it needs: a u16 holds its numbers, and where the pass writes there is room
-pub record Place (write closed : Bool) (base : ℕ) (s : Shape) (v : List Float) (t : List ℕ) : Type 0 where
-  pub numbers : base + shapeCount s < 65536
-  pub faces : length (shapeTriangles closed base s) < 65536
-  pub room : write ≡ true → Room closed base s v t
-
--- what the pass does: it has counted n vertices and m triangles and, where it writes, written them
-pub record Draws (write : Bool) (o : Stroke) (closed : Bool) (base : ℕ) (s : Shape) (v v' : List Float) (t t' : List ℕ) (n m : ℕ) : Type 0 where
-  pub count : n ≡ shapeCount s
-  pub faces : m ≡ length (shapeTriangles closed base s)
-  pub drawing : write ≡ true → Drawing o closed base s v v' t t'
+-- the same as a piece at a place: vertices are numbered from there
+abbrev pub shapePiece : Stroke → Bool → Place → Shape → Piece
+shapePiece o closed k s = record { vertices = shapeVertices o s; triangles = shapeTriangles closed (nextVertex k) s }

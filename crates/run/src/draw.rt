@@ -3,8 +3,10 @@ use crate::strips::write_open;
 use crate::strips::write_round;
 use endpoint::Endpoint;
 use endpoint::EndpointId;
-use endpoint::VertexId;
 use path::options::Stroke;
+use pieces::Index;
+use pieces::Place;
+use pieces::next_vertex;
 use points::endpoint_at;
 use points::first_far;
 use points::kept_end;
@@ -20,43 +22,36 @@ ghost use Rattle.course.specs.Joint.{jointsOf};
 ghost use Rattle.course.specs.Kept.{keptPoints};
 ghost use Rattle.points.specs.Kept.{runFrom};
 ghost use Rattle.points.specs.Points.{endpointsOf};
-ghost use Rattle.run.specs.Run.{emptyCap, along, drawsCap, shapeOfKept, shapeOf, Drawing, Place, Draws};
+ghost use Rattle.pieces.specs.Piece.{lent, Fits, Lays, Puts};
+ghost use Rattle.run.specs.Run.{emptyCap, along, drawsCap, shapeOfKept, shapeOf, shapePiece};
 ghost use Rattle.run.specs.Strips.{Within, Rounds, roundedOf};
-
-// How much was drawn.
-pub struct Drawn {
-    pub vertices: usize,
-    pub triangles: usize,
-}
 
 fn draw_open(
     v: &mut [f32],
-    t: &mut [u16],
+    t: &mut [Index],
     o: Stroke,
     p: &[f32],
     first: EndpointId,
     i: usize,
-    base: VertexId,
+    place: Place,
     write: bool,
-) -> Drawn
+) -> Place
     requires { ⌜ Within (now p) (first .0) i ⌝ }
-    requires { ⌜ Place write false (base .0) (along (jointsOf false o (runFrom (now p) (first .0) i))) (now v) (now t) ⌝ }
-    ensures { λ r. ⌜ Draws write o false (base .0) (along (jointsOf false o (runFrom (now (p .entry)) (first .0) i))) (now (v .entry)) (now (v .exit)) (now (t .entry)) (now (t .exit)) (r .vertices) (r .triangles) ⌝ }
+    requires { ⌜ Fits write place (shapePiece o false place (along (jointsOf false o (runFrom (now p) (first .0) i)))) (lent (now v) (now t)) ⌝ }
+    ensures { λ r. ⌜ Puts write place (shapePiece o false place (along (jointsOf false o (runFrom (now (p .entry)) (first .0) i)))) (lent (now (v .entry)) (now (t .entry))) (lent (now (v .exit)) (now (t .exit))) r ⌝ }
 {
-    let s = write_open(v, t, o, p, first, i, base, write);
-    Drawn {
-        vertices: s.vertices,
-        triangles: s.triangles,
-    }
+    let s = write_open(v, t, o, p, first, i, place, write);
+    s.place
 }
 
 // A closed run goes round to its first section.
-fn close_round(t: &mut [u16], s: Strip, write: bool)
+fn close_round(t: &mut [Index], s: Strip, write: bool)
     requires { ⌜ (write ≡ true → Rounds s (now t)) ⌝ }
     ensures { λ _. ⌜ (write ≡ true → now (t .exit) ≡ roundedOf s (now (t .entry))) ⌝ }
 {
     if write {
-        let at = 3 * s.triangles;
+        let place = s.place;
+        let at = 3 * place.triangles;
         write_close(&mut t[at..], s);
     }
 }
@@ -64,23 +59,26 @@ fn close_round(t: &mut [u16], s: Strip, write: bool)
 // A closed run has as many triangles as vertices.
 fn draw_closed(
     v: &mut [f32],
-    t: &mut [u16],
+    t: &mut [Index],
     o: Stroke,
     p: &[f32],
     first: EndpointId,
     i: usize,
-    base: VertexId,
+    place: Place,
     write: bool,
-) -> Drawn
+) -> Place
     requires { ⌜ Within (now p) (first .0) i ⌝ }
-    requires { ⌜ Place write true (base .0) (along (jointsOf true o (runFrom (now p) (first .0) i))) (now v) (now t) ⌝ }
-    ensures { λ r. ⌜ Draws write o true (base .0) (along (jointsOf true o (runFrom (now (p .entry)) (first .0) i))) (now (v .entry)) (now (v .exit)) (now (t .entry)) (now (t .exit)) (r .vertices) (r .triangles) ⌝ }
+    requires { ⌜ Fits write place (shapePiece o true place (along (jointsOf true o (runFrom (now p) (first .0) i)))) (lent (now v) (now t)) ⌝ }
+    ensures { λ r. ⌜ Puts write place (shapePiece o true place (along (jointsOf true o (runFrom (now (p .entry)) (first .0) i)))) (lent (now (v .entry)) (now (t .entry))) (lent (now (v .exit)) (now (t .exit))) r ⌝ }
 {
-    let s = write_round(v, t, o, p, first, i, base, write);
+    let s = write_round(v, t, o, p, first, i, place, write);
     close_round(t, s, write);
-    Drawn {
-        vertices: s.vertices,
-        triangles: s.vertices,
+    let end = s.place;
+    let base = place.base;
+    Place {
+        base,
+        vertices: end.vertices,
+        triangles: place.triangles + (end.vertices - place.vertices),
     }
 }
 
@@ -95,57 +93,66 @@ pub fn draws_cap(o: Stroke, closed: bool, lines: bool) -> bool
 }
 
 // The empty cap at a point, where the pass writes.
-fn lay_empty_cap(v: &mut [f32], t: &mut [u16], o: Stroke, p: Endpoint, base: VertexId, write: bool)
-    requires { ⌜ Place write false (base .0) (emptyCap p) (now v) (now t) ⌝ }
-    ensures { λ _. ⌜ (write ≡ true → Drawing o false (base .0) (emptyCap p) (now (v .entry)) (now (v .exit)) (now (t .entry)) (now (t .exit))) ⌝ }
+fn lay_empty_cap(v: &mut [f32], t: &mut [Index], o: Stroke, p: Endpoint, place: Place, write: bool)
+    requires { ⌜ Fits write place (shapePiece o false place (emptyCap p)) (lent (now v) (now t)) ⌝ }
+    ensures { λ _. ⌜ Lays write place (shapePiece o false place (emptyCap p)) (lent (now (v .entry)) (now (t .entry))) (lent (now (v .exit)) (now (t .exit))) ⌝ }
 {
     if write {
-        tessellate_empty_square_cap(v, t, base, p.position, o.half_width, 0.0);
+        let at = 5 * place.vertices;
+        let to = 3 * place.triangles;
+        let base = next_vertex(place);
+        tessellate_empty_square_cap(
+            &mut v[at..],
+            &mut t[to..],
+            base,
+            p.position,
+            o.half_width,
+            0.0,
+        );
     }
 }
 
 // A run of one kept point.
 fn draw_alone(
     v: &mut [f32],
-    t: &mut [u16],
+    t: &mut [Index],
     o: Stroke,
     p: Endpoint,
     closed: bool,
     lines: bool,
-    base: VertexId,
+    place: Place,
     write: bool,
-) -> Drawn
-    requires { ⌜ Place write closed (base .0) (shapeOfKept o closed lines (p ∷ [])) (now v) (now t) ⌝ }
-    ensures { λ r. ⌜ Draws write o closed (base .0) (shapeOfKept o closed lines (p ∷ [])) (now (v .entry)) (now (v .exit)) (now (t .entry)) (now (t .exit)) (r .vertices) (r .triangles) ⌝ }
+) -> Place
+    requires { ⌜ Fits write place (shapePiece o closed place (shapeOfKept o closed lines (p ∷ []))) (lent (now v) (now t)) ⌝ }
+    ensures { λ r. ⌜ Puts write place (shapePiece o closed place (shapeOfKept o closed lines (p ∷ []))) (lent (now (v .entry)) (now (t .entry))) (lent (now (v .exit)) (now (t .exit))) r ⌝ }
 {
     if draws_cap(o, closed, lines) {
-        lay_empty_cap(v, t, o, p, base, write);
-        return Drawn {
-            vertices: 4,
-            triangles: 2,
+        lay_empty_cap(v, t, o, p, place, write);
+        let base = place.base;
+        return Place {
+            base,
+            vertices: place.vertices + 4,
+            triangles: place.triangles + 2,
         };
     }
-    Drawn {
-        vertices: 0,
-        triangles: 0,
-    }
+    place
 }
 
 // The points of p, none of which is dropped on closing.
 fn draw_kept(
     v: &mut [f32],
-    t: &mut [u16],
+    t: &mut [Index],
     o: Stroke,
     p: &[f32],
     first: EndpointId,
     closed: bool,
     lines: bool,
-    base: VertexId,
+    place: Place,
     write: bool,
-) -> Drawn
+) -> Place
     requires { ⌜ (2 ≤ length (now p)) × (length (now p) ≤ 8192) × (first .0 ≤ 4096) ⌝ }
-    requires { ⌜ Place write closed (base .0) (shapeOfKept o closed lines (keptPoints false (endpointsOf (first .0) (now p)))) (now v) (now t) ⌝ }
-    ensures { λ r. ⌜ Draws write o closed (base .0) (shapeOfKept o closed lines (keptPoints false (endpointsOf (first .0) (now (p .entry))))) (now (v .entry)) (now (v .exit)) (now (t .entry)) (now (t .exit)) (r .vertices) (r .triangles) ⌝ }
+    requires { ⌜ Fits write place (shapePiece o closed place (shapeOfKept o closed lines (keptPoints false (endpointsOf (first .0) (now p))))) (lent (now v) (now t)) ⌝ }
+    ensures { λ r. ⌜ Puts write place (shapePiece o closed place (shapeOfKept o closed lines (keptPoints false (endpointsOf (first .0) (now (p .entry)))))) (lent (now (v .entry)) (now (t .entry))) (lent (now (v .exit)) (now (t .exit))) r ⌝ }
 {
     let i = first_far(p, first);
     if p.len() / 2 <= i {
@@ -156,42 +163,39 @@ fn draw_kept(
             endpoint_at(p, first, 0),
             closed,
             lines,
-            base,
+            place,
             write,
         );
     }
     if closed {
-        return draw_closed(v, t, o, p, first, i, base, write);
+        return draw_closed(v, t, o, p, first, i, place, write);
     }
-    draw_open(v, t, o, p, first, i, base, write)
+    draw_open(v, t, o, p, first, i, place, write)
 }
 
-// A run whose coordinates are p and whose endpoints are numbered from first; its vertices are numbered
-// from base.
+// A run whose coordinates are p and whose endpoints are numbered from first. The result is the place
+// behind it.
 pub fn draw_run(
     v: &mut [f32],
-    t: &mut [u16],
+    t: &mut [Index],
     o: Stroke,
     p: &[f32],
     first: EndpointId,
     closed: bool,
-    base: VertexId,
+    place: Place,
     write: bool,
-) -> Drawn
+) -> Place
     requires { ⌜ (length (now p) ≤ 8192) × (first .0 ≤ 4096) ⌝ }
-    requires { ⌜ Place write closed (base .0) (shapeOf o closed (endpointsOf (first .0) (now p))) (now v) (now t) ⌝ }
-    ensures { λ r. ⌜ Draws write o closed (base .0) (shapeOf o closed (endpointsOf (first .0) (now (p .entry)))) (now (v .entry)) (now (v .exit)) (now (t .entry)) (now (t .exit)) (r .vertices) (r .triangles) ⌝ }
+    requires { ⌜ Fits write place (shapePiece o closed place (shapeOf o closed (endpointsOf (first .0) (now p)))) (lent (now v) (now t)) ⌝ }
+    ensures { λ r. ⌜ Puts write place (shapePiece o closed place (shapeOf o closed (endpointsOf (first .0) (now (p .entry))))) (lent (now (v .entry)) (now (t .entry))) (lent (now (v .exit)) (now (t .exit))) r ⌝ }
 {
     if p.len() < 2 {
-        return Drawn {
-            vertices: 0,
-            triangles: 0,
-        };
+        return place;
     }
     let lines = 1 < p.len() / 2;
     if closed {
         let to = 2 * kept_end(p, first);
-        return draw_kept(v, t, o, &p[..to], first, true, lines, base, write);
+        return draw_kept(v, t, o, &p[..to], first, true, lines, place, write);
     }
-    draw_kept(v, t, o, p, first, false, lines, base, write)
+    draw_kept(v, t, o, p, first, false, lines, place, write)
 }

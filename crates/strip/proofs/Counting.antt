@@ -5,17 +5,17 @@ use mathlib.Core.Bool.{Bool, true, false, cond}
 use mathlib.Core.List.{List, [], _∷_}
 use mathlib.Core.Logic.{_≢_}
 use native.Mathlib.Omega.{arith}
-use lib.Ieee.{Float}
 use lib.ListN.{length, length-append}
 use Rattle.endpoint.specs.Endpoint.{sideCountOf}
 use Rattle.endpoint.specs.declared.EndpointData.{EndpointData}
+use Rattle.pieces.specs.Piece.{Lists, Lays}
 use Rattle.strip.specs.declared.Strip.{Strip}
 use Rattle.strip.specs.declared.section.Section.{Section}
 use Rattle.strip.specs.Joint.{jointCount}
 use Rattle.strip.specs.Section.{sectionOf, beforeOf, afterOf}
 use Rattle.strip.specs.Triangle.{between, past}
-use Rattle.strip.specs.Strip.{nextOf, stepTriangles, stepOf, steppedOf, stepsOf, Behind, Sound, Steps, Lays, Has, Puts}
-use Rattle.strip.proofs.Joints.{side-few, count-one}
+use Rattle.strip.specs.Strip.{nextOf, stepTriangles, stepOf, steppedOf, stepsOf, Behind, Sound, pieceOf, Steps, Has, Puts}
+use Rattle.strip.proofs.Joints.{side-few, length-joint, length-more}
 use Rattle.strip.proofs.Triangles.{between-same}
 use Rattle.strip.proofs.Facts.Ladder.{between-both, length-ladder, inner-is, length-inner, beforeN}
 
@@ -59,10 +59,10 @@ stepped-is s j o =
     let n = sideCountOf (j .negative) in
     let negative : nextOf s + p + n - 1 ≡ nextOf s + (p + n - 1) = omega (arith, side-few (j .positive)) in
     let positive : nextOf s + p - 1 ≡ nextOf s + (p - 1) = omega (arith, side-few (j .positive)) in
-    rw (faces (s .begun) (s .triangles) (length (stepTriangles s j)) (p + n) (step-length s j o), negative, positive)
+    rw (length-joint j, faces (s .begun) (s .place .triangles) (length (stepTriangles s j)) (p + n) (step-length s j o), negative, positive)
 
 -- a pass over one joint, whose sides have p and n vertices
-module _ {write : Bool} {s : Strip} {j : EndpointData} {v : List Float} {t : List ℕ} (h : Has write s (j ∷ []) v t)
+module _ {write : Bool} {s : Strip} {j : EndpointData} {l : Lists} (h : Has write s (j ∷ []) l)
     (p n : ℕ) (ep : p ≡ sideCountOf (j .positive)) (en : n ≡ sideCountOf (j .negative)) where
   pub steps-one : Steps s p n
   steps-one =
@@ -71,10 +71,10 @@ module _ {write : Bool} {s : Strip} {j : EndpointData} {v : List Float} {t : Lis
       record {
         positive = (omega arith, omega arith);
         negative = (omega arith, omega arith);
-        numbers = omega (arith, h .numbers, count-one j);
-        faces = omega (arith, h .faces);
+        numbers = omega (arith, h .fits .numbers, length-more j []);
+        faces = omega (arith, h .fits .faces);
       }
 
-  pub puts-one : (s' : Strip) (v' : List Float) (t' : List ℕ) → s' ≡ steppedOf s p n → (write ≡ true → Lays (j ∷ []) s v v' t t') → Puts write (j ∷ []) s v v' t t' s'
+  pub puts-one : {s' : Strip} {l' : Lists} → s' ≡ steppedOf s p n → Lays write (s .place) (pieceOf s (j ∷ [])) l l' → Puts write (j ∷ []) s l l' s'
   unfolding stepsOf
-  puts-one s' v' t' e l = record { state = e ∙ rw (ep, en) (sym (stepped-is s j (h .sound))); lays = l }
+  puts-one e g = record { state = e ∙ rw (ep, en) (sym (stepped-is s j (h .sound))); lays = g }

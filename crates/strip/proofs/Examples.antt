@@ -9,7 +9,9 @@ use Rattle.endpoint.specs.declared.InnerJoin.the-variants.{Neither}
 use Rattle.endpoint.specs.declared.LineJoin.the-variants.{Bevel}
 use Rattle.endpoint.specs.declared.SidePoints.the-variants.{Pair}
 use Rattle.strip.specs.Section.{sections}
-use Rattle.strip.specs.Triangle.{flatT, different, triOf, between, stripOf, through, trianglesOf}
+use Rattle.lists.specs.Over.{flat}
+use Rattle.pieces.specs.Piece.{flatT}
+use Rattle.strip.specs.Triangle.{different, triOf, between, stripOf, through, trianglesOf}
 
 -- a join of two pair sides
 abbrev both : EndpointData
@@ -28,11 +30,11 @@ both = record {
 
 -- `M0 1L2 1`: "1 0 2", "1 2 3"
 pub line : flatT (trianglesOf false 0 (blankOf ∷ blankOf ∷ [])) ≡ 1 ∷ 0 ∷ 2 ∷ 1 ∷ 2 ∷ 3 ∷ []
-unfolding flatT sections through stripOf between triOf different
+unfolding flat sections through stripOf between triOf different
 line = refl
 
 -- "(0,0), (100,0) closed: Bevel 8 and 8"
 pub ring : flatT (trianglesOf true 0 (both ∷ both ∷ []))
     ≡ 2 ∷ 0 ∷ 1 ∷ 2 ∷ 1 ∷ 3 ∷ 3 ∷ 1 ∷ 4 ∷ 3 ∷ 4 ∷ 6 ∷ 6 ∷ 4 ∷ 5 ∷ 6 ∷ 5 ∷ 7 ∷ 7 ∷ 5 ∷ 0 ∷ 7 ∷ 0 ∷ 2 ∷ []
-unfolding flatT sections through stripOf between triOf different
+unfolding flat sections through stripOf between triOf different
 ring = refl

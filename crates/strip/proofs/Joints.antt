@@ -1,7 +1,7 @@
--- Laws of a run's vertices and of their count: five floats to a vertex, one vertex or two to a side, joint after joint. Assumes nothing.
-use Prim.Native.Nat.{_+_, _*_, _≤_}
+-- Laws of a run's vertices and of their count: one vertex or two to a side, joint after joint. Assumes nothing.
+use Prim.Native.Nat.{_+_, _≤_}
 use mathlib.Core.Path.{_≡_, refl}
-use mathlib.Core.List.{List, [], _∷_, _++_, append-assoc, append-nil}
+use mathlib.Core.List.{List, [], _∷_, _++_, append-assoc}
 use native.Mathlib.Omega.{arith}
 use lib.ListN.{length, length-append}
 use Rattle.endpoint.specs.Endpoint.{sideCountOf}
@@ -15,23 +15,19 @@ pub side-few : (s : SidePoints) → (1 ≤ sideCountOf s) × (sideCountOf s ≤ 
 side-few (Single x y) = (omega arith, omega arith)
 side-few (Pair x0 y0 x1 y1) = (omega arith, omega arith)
 
-pub length-joint : (j : EndpointData) → length (jointVerticesOf j) ≡ 5 * jointCount j
+pub length-joint : (j : EndpointData) → length (jointVerticesOf j) ≡ jointCount j
 unfolding jointVerticesOf
-length-joint j = rw (length-append, length-side j (j .positive), length-side j (j .negative)) (omega arith)
+length-joint j = rw (length-append, length-side j (j .positive), length-side j (j .negative))
 
-pub length-vertices : (js : List EndpointData) → length (verticesOf js) ≡ 5 * vertexCount js
+pub length-vertices : (js : List EndpointData) → length (verticesOf js) ≡ vertexCount js
 unfolding verticesOf vertexCount
 length-vertices [] = refl
-length-vertices (j ∷ js) = rw (length-append, length-joint, length-vertices js) (omega arith)
+length-vertices (j ∷ js) = rw (length-append, length-joint, length-vertices js)
 
 pub vertices-append : (xs ys : List EndpointData) → verticesOf (xs ++ ys) ≡ verticesOf xs ++ verticesOf ys
 unfolding verticesOf
 vertices-append [] ys = refl
 vertices-append (x ∷ xs) ys = rw (vertices-append xs ys, append-assoc)
-
-pub vertices-one : (j : EndpointData) → verticesOf (j ∷ []) ≡ jointVerticesOf j
-unfolding verticesOf
-vertices-one j = append-nil (jointVerticesOf j)
 
 pub count-none : vertexCount [] ≡ 0
 unfolding vertexCount
@@ -41,8 +37,9 @@ pub count-more : (j : EndpointData) (js : List EndpointData) → vertexCount (j 
 unfolding vertexCount
 count-more j js = refl
 
-pub count-one : (j : EndpointData) → vertexCount (j ∷ []) ≡ jointCount j
-count-one j = omega (arith, count-more j [], count-none)
+pub length-more : (j : EndpointData) (js : List EndpointData) → length (verticesOf (j ∷ js)) ≡ jointCount j + length (verticesOf js)
+unfolding verticesOf
+length-more j js = rw (length-append, length-joint)
 
 pub count-append : (xs ys : List EndpointData) → vertexCount (xs ++ ys) ≡ vertexCount xs + vertexCount ys
 unfolding vertexCount

@@ -1,157 +1,61 @@
--- A pass over joints in turn. What was to come is still to come: of the joints js₀, to be passed from the state s₀ on with the lists v₀ and t₀, js are left
--- at the state s with the lists v and t. Assumes nothing.
-use Prim.Native.Nat.{ℕ, _+_, _*_, _≤_}
-use mathlib.Core.Path.{_≡_, refl, sym, _∙_}
-use mathlib.Core.Bool.{Bool, true}
-use mathlib.Core.List.{List, [], _++_}
-use native.Mathlib.Omega.{arith}
-use lib.Ieee.{Float}
-use lib.ListN.{length, length-append, length-take, length-drop, take, drop, take-append-drop}
+-- Passes over joints one after another, from what `lists` says of pieces. Assumes nothing.
+use mathlib.Core.Path.{_≡_, refl, sym, ap, _∙_}
+use mathlib.Core.Bool.{Bool}
+use mathlib.Core.List.{List, [], _∷_, _++_, append-assoc, append-nil}
 use Rattle.endpoint.specs.declared.EndpointData.{EndpointData}
-use Rattle.lists.specs.Over.{over}
-use Rattle.lists.proofs.Laws.{over-none, length-over}
-use Rattle.lists.proofs.Parts.{step}
+use Rattle.pieces.specs.Piece.{Piece, Lists, laid}
+use Rattle.pieces.specs.Piece as piece
+use Rattle.pieces.proofs.Pieces as pieces
 use Rattle.strip.specs.declared.Strip.{Strip}
-use Rattle.strip.specs.Joint.{vertexCount, verticesOf}
-use Rattle.strip.specs.Triangle.{flatT}
-use Rattle.strip.specs.Strip.{stepsOf, trianglesFrom, Sound, putVertices, putTriangles, Space, Lays, Has, Puts}
-use Rattle.strip.proofs.Joints.{length-vertices, vertices-append, count-append}
-use Rattle.strip.proofs.Triangles.{flatT-append, length-flatT}
-use Rattle.strip.proofs.Steps.{triangles-append, length-triangles-append, steps-append, steps-base, steps-vertices, steps-triangles, sound-steps}
+use Rattle.strip.specs.Joint.{verticesOf}
+use Rattle.strip.specs.Strip.{stepsOf, trianglesFrom, pieceOf, Has, Puts}
+use Rattle.strip.proofs.Steps.{steps-append, pieces-append, steps-place, sound-steps}
 
--- the lists of a pass that writes
-pub record Laying (s₀ : Strip) (js₀ : List EndpointData) (v₀ : List Float) (t₀ : List ℕ) (js : List EndpointData) (s : Strip) (v : List Float) (t : List ℕ) : Type 0 where
-  pub same-v : length v ≡ length v₀
-  pub same-t : length t ≡ length t₀
-  pub vertices : putVertices s₀ js₀ v₀ ≡ putVertices s js v
-  pub triangles : putTriangles s₀ js₀ t₀ ≡ putTriangles s js t
+-- the same of the piece
+pub puts-piece : {write : Bool} {js : List EndpointData} {s s' : Strip} {l l' : Lists} → Puts write js s l l' s' → piece.Puts write (s .place) (pieceOf s js) l l' (s' .place)
+puts-piece {js = js} {s = s} e = record { place = ap (λ (x : Strip). x .place) (e .state) ∙ steps-place s js; lists = e .lays }
 
-pub record Pending (write : Bool) (s₀ : Strip) (js₀ : List EndpointData) (v₀ : List Float) (t₀ : List ℕ) (js : List EndpointData) (s : Strip) (v : List Float) (t : List ℕ) : Type 0 where
-  pub count-v : s .vertices + vertexCount js ≡ s₀ .vertices + vertexCount js₀
-  pub count-t : s .triangles + length (trianglesFrom s js) ≡ s₀ .triangles + length (trianglesFrom s₀ js₀)
-  pub base : s .base .0 ≡ s₀ .base .0
-  pub state : stepsOf s js ≡ stepsOf s₀ js₀
-  pub sound : Sound s
-  pub lists : write ≡ true → Laying s₀ js₀ v₀ t₀ js s v t
-
-length-put : {A : Type 0} (v ws : List A) (at : ℕ) → at ≤ length v → length (take at v ++ over ws (drop at v)) ≡ length v
-length-put v ws at h = rw (length-append, length-over) (simp (length-take, length-drop) (omega arith))
-
-module _ (write : Bool) where
-  pub pending-all : (s : Strip) (js : List EndpointData) (v : List Float) (t : List ℕ) → Has write s js v t → Pending write s js v t js s v t
-  pending-all s js v t h = record {
-    count-v = refl;
-    count-t = refl;
-    base = refl;
-    state = refl;
-    sound = h .sound;
-    lists = λ w. record { same-v = refl; same-t = refl; vertices = refl; triangles = refl };
-  }
-
-  -- there is room for what is to come
-  pub pending-has : (s₀ : Strip) (js₀ : List EndpointData) (v₀ : List Float) (t₀ : List ℕ) → Has write s₀ js₀ v₀ t₀
-      → (js : List EndpointData) (s : Strip) (v : List Float) (t : List ℕ) → Pending write s₀ js₀ v₀ t₀ js s v t → Has write s js v t
-  pending-has s₀ js₀ v₀ t₀ has js s v t m = record {
-    sound = m .sound;
-    numbers = omega (arith, m .count-v, m .base, has .numbers);
-    faces = omega (arith, m .count-t, has .faces);
-    space = λ w. record {
-      sound = m .sound;
-      numbers = omega (arith, m .count-v, m .base, has .numbers);
-      vertices = omega (arith, m .count-v, m .lists w .same-v, has .space w .vertices);
-      triangles = omega (arith, m .count-t, m .lists w .same-t, has .space w .triangles);
-    };
-  }
-
-  -- the joints xs are next
-  module _ (s₀ : Strip) (js₀ : List EndpointData) (v₀ : List Float) (t₀ : List ℕ) (has : Has write s₀ js₀ v₀ t₀)
-      (xs js : List EndpointData) (s : Strip) (v : List Float) (t : List ℕ) (m : Pending write s₀ js₀ v₀ t₀ (xs ++ js) s v t) where
-    pub has-next : Has write s xs v t
-    has-next =
-        let h = pending-has s₀ js₀ v₀ t₀ has (xs ++ js) s v t m in
-        let n = count-append xs js in
-        let l = length-triangles-append s xs js in
-        record {
-          sound = h .sound;
-          numbers = omega (arith, h .numbers);
-          faces = omega (arith, h .faces);
-          space = λ w. record {
-            sound = h .sound;
-            numbers = omega (arith, h .numbers);
-            vertices = omega (arith, h .space w .vertices);
-            triangles = omega (arith, h .space w .triangles);
-          };
-        }
-
-    laying-put : (v' : List Float) (t' : List ℕ) → Space s xs v t → Laying s₀ js₀ v₀ t₀ (xs ++ js) s v t → Lays xs s v v' t t' → Laying s₀ js₀ v₀ t₀ js (stepsOf s xs) v' t'
-    laying-put v' t' h l e =
-        let lv = length-vertices xs in
-        let lt = length-flatT (trianglesFrom s xs) in
-        let nv = steps-vertices s xs in
-        let nt = steps-triangles s xs in
-        let av : 5 * stepsOf s xs .vertices ≡ 5 * s .vertices + length (verticesOf xs) = omega arith in
-        let at : 3 * stepsOf s xs .triangles ≡ 3 * s .triangles + length (flatT (trianglesFrom s xs)) = omega arith in
-        let hv : 5 * s .vertices + length (verticesOf xs) ≤ length v = omega (arith, h .vertices) in
-        let ht : 3 * s .triangles + length (flatT (trianglesFrom s xs)) ≤ length t = omega (arith, h .triangles) in
-        rw (e .vertices, e .triangles)
-        (record {
-          same-v = length-put v (verticesOf xs) (5 * s .vertices) (omega arith) ∙ l .same-v;
-          same-t = length-put t (flatT (trianglesFrom s xs)) (3 * s .triangles) (omega arith) ∙ l .same-t;
-          vertices = l .vertices ∙ rw (vertices-append, av) (step v (verticesOf xs) (verticesOf js) (5 * s .vertices) hv);
-          triangles = l .triangles ∙ rw (triangles-append, flatT-append, at) (step t (flatT (trianglesFrom s xs)) (flatT (trianglesFrom (stepsOf s xs) js)) (3 * s .triangles) ht);
-        })
-
-    -- once they are passed, the others are to come
-    pub pending-put : (s' : Strip) (v' : List Float) (t' : List ℕ) → Puts write xs s v v' t t' s' → Pending write s₀ js₀ v₀ t₀ js s' v' t'
-    pending-put s' v' t' e =
-        let h = has-next in
-        rw (e .state)
-        (record {
-          count-v = omega (arith, steps-vertices s xs, count-append xs js, m .count-v);
-          count-t = omega (arith, steps-triangles s xs, length-triangles-append s xs js, m .count-t);
-          base = steps-base s xs ∙ m .base;
-          state = sym (steps-append s xs js) ∙ m .state;
-          sound = sound-steps s xs (m .sound) (h .numbers);
-          lists = λ w. laying-put v' t' (h .space w) (m .lists w) (e .lays w);
-        })
-
-  -- nothing is to be passed
-  pub puts-none : (s : Strip) (v : List Float) (t : List ℕ) → Puts write [] s v v t t s
-  unfolding verticesOf trianglesFrom flatT stepsOf
-  puts-none s v t = record {
-    state = refl;
-    lays = λ w. record {
-      vertices = sym (rw (over-none (drop (5 * s .vertices) v)) (take-append-drop (5 * s .vertices) v));
-      triangles = sym (rw (over-none (drop (3 * s .triangles) t)) (take-append-drop (3 * s .triangles) t));
-    };
-  }
-
-  -- nothing is to come: all is passed
-  pub pending-none : (s₀ : Strip) (js₀ : List EndpointData) (v₀ : List Float) (t₀ : List ℕ) (s : Strip) (v : List Float) (t : List ℕ)
-      → Pending write s₀ js₀ v₀ t₀ [] s v t → Puts write js₀ s₀ v₀ v t₀ t s
-  pending-none s₀ js₀ v₀ t₀ s v t m =
-      let p = puts-none s v t in
-      record {
-        state = p .state ∙ m .state;
-        lays = λ w. record { vertices = p .lays w .vertices ∙ sym (m .lists w .vertices); triangles = p .lays w .triangles ∙ sym (m .lists w .triangles) };
-      }
+module _ {write : Bool} {s : Strip} {l : Lists} where
+  -- nothing
+  pub puts-none : Puts write [] s l l s
+  unfolding stepsOf verticesOf trianglesFrom
+  puts-none = record { state = refl; lays = λ w. sym (pieces.laid-none (s .place) l) }
 
   -- one pass after another
-  module _ (s : Strip) (xs ys : List EndpointData) (v : List Float) (t : List ℕ) (h : Has write s (xs ++ ys) v t) where
-    pub has-front : Has write s xs v t
-    has-front = has-next s (xs ++ ys) v t h xs ys s v t (pending-all s (xs ++ ys) v t h)
+  pub has-front : (xs ys : List EndpointData) → Has write s (xs ++ ys) l → Has write s xs l
+  has-front xs ys h = record { sound = h .sound; fits = pieces.fits-front (pieceOf s xs) (pieceOf (stepsOf s xs) ys) (rw (pieces-append s xs ys) at (h .fits)) }
 
-    module _ (s1 : Strip) (v1 : List Float) (t1 : List ℕ) (e : Puts write xs s v v1 t t1 s1) where
-      after-front : Pending write s (xs ++ ys) v t ys s1 v1 t1
-      after-front = pending-put s (xs ++ ys) v t h xs ys s v t (pending-all s (xs ++ ys) v t h) s1 v1 t1 e
+  pub has-back : (xs ys : List EndpointData) → Has write s (xs ++ ys) l → {l1 : Lists} {s1 : Strip} → Puts write xs s l l1 s1 → Has write s1 ys l1
+  has-back xs ys h e =
+      let f = rw (pieces-append s xs ys) at (h .fits) in
+      rw (e .state) (record {
+        sound = sound-steps s xs (h .sound) (has-front xs ys h .fits .numbers);
+        fits = pieces.fits-back (pieceOf s xs) (pieceOf (stepsOf s xs) ys) f (record { place = steps-place s xs; lists = e .lays });
+      })
 
-      pub has-back : Has write s1 ys v1 t1
-      has-back = pending-has s (xs ++ ys) v t h ys s1 v1 t1 after-front
+  pub puts-both : {xs ys : List EndpointData} {l1 l2 : Lists} {s1 s2 : Strip} → Puts write xs s l l1 s1 → Puts write ys s1 l1 l2 s2 → Puts write (xs ++ ys) s l l2 s2
+  puts-both {xs} {ys} e f =
+      let b = pieces.puts-both (puts-piece e) (puts-piece f) in
+      record {
+        state = f .state ∙ rw (e .state) (sym (steps-append s xs ys));
+        lays = λ w. b .lists w ∙ ap (λ (p : Piece). laid (s .place) p l) (rw (e .state) (sym (pieces-append s xs ys)));
+      }
 
-      pub puts-both : (s2 : Strip) (v2 : List Float) (t2 : List ℕ) → Puts write ys s1 v1 v2 t1 t2 s2 → Puts write (xs ++ ys) s v v2 t t2 s2
-      puts-both s2 v2 t2 f =
-          let m = after-front in
-          record {
-            state = f .state ∙ m .state;
-            lays = λ w. record { vertices = f .lays w .vertices ∙ sym (m .lists w .vertices); triangles = f .lays w .triangles ∙ sym (m .lists w .triangles) };
-          }
+-- part of the way: of the joints js0, from the state s0 and the lists l0 on, js are to come at the state s and the lists l
+pub record Midway (write : Bool) (s0 : Strip) (js0 : List EndpointData) (l0 : Lists) (js : List EndpointData) (s : Strip) (l : Lists) : Type 0 where
+  pub done : List EndpointData
+  pub split : js0 ≡ done ++ js
+  pub puts : Puts write done s0 l0 l s
+
+pub midway-start : {write : Bool} {s : Strip} {js : List EndpointData} {l : Lists} → Midway write s js l js s l
+midway-start = record { done = []; split = refl; puts = puts-none }
+
+module _ {write : Bool} {s0 : Strip} {js0 : List EndpointData} {l0 : Lists} {s : Strip} {l : Lists} where
+  pub midway-has : (xs js : List EndpointData) → Has write s0 js0 l0 → Midway write s0 js0 l0 (xs ++ js) s l → Has write s xs l
+  midway-has xs js h m = has-front xs js (has-back (m .done) (xs ++ js) (rw (m .split) at h) (m .puts))
+
+  pub midway-put : (xs js : List EndpointData) → Midway write s0 js0 l0 (xs ++ js) s l → {s1 : Strip} {l1 : Lists} → Puts write xs s l l1 s1 → Midway write s0 js0 l0 js s1 l1
+  midway-put xs js m e = record { done = m .done ++ xs; split = m .split ∙ sym (append-assoc (m .done) xs js); puts = puts-both (m .puts) e }
+
+  pub midway-end : Midway write s0 js0 l0 [] s l → Puts write js0 s0 l0 l s
+  midway-end m = rw (m .split, append-nil (m .done)) (m .puts)

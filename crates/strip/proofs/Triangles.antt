@@ -1,5 +1,5 @@
--- Laws of triangles: how many numbers they are, when one is left out, and those between two sections. Assumes nothing.
-use Prim.Native.Nat.{ℕ, _+_, _*_, _≤_}
+-- Laws of triangles: when one is left out, and those between two sections. Assumes nothing.
+use Prim.Native.Nat.{ℕ, _+_, _≤_}
 use mathlib.Core.Path.{_≡_, refl}
 use mathlib.Core.Bool.{Bool, true, false, not, cond}
 use mathlib.Core.List.{List, [], _∷_, _++_}
@@ -9,17 +9,8 @@ use borrow.Author.Tests.{eq-eqb, ne-eqb}
 use lib.Dec.{eqb}
 use lib.ListN.{length, length-append}
 use Rattle.strip.specs.declared.section.Section.{Section}
-use Rattle.strip.specs.Triangle.{Tri, flatT, different, triOf, onPositive, onNegative, between}
-
-pub flatT-append : (xs ys : List Tri) → flatT (xs ++ ys) ≡ flatT xs ++ flatT ys
-unfolding flatT
-flatT-append [] ys = refl
-flatT-append (x ∷ xs) ys = rw (flatT-append xs ys)
-
-pub length-flatT : (xs : List Tri) → length (flatT xs) ≡ 3 * length xs
-unfolding flatT
-length-flatT [] = refl
-length-flatT (x ∷ xs) = omega (arith, length-flatT xs)
+use Rattle.triangles.specs.Tri.{Tri}
+use Rattle.strip.specs.Triangle.{different, triOf, onPositive, onNegative, between}
 
 -- a triangle of three different numbers stands
 pub tri-some : (a b c : ℕ) → different a b c ≡ true → triOf a b c ≡ record { a = a; b = b; c = c } ∷ []

@@ -4,4 +4,3 @@ pub mod Joint
 pub mod Section
 pub mod Triangle
 pub mod Strip
-pub mod Facts

@@ -5,6 +5,7 @@ use Rattle.endpoint.specs.Endpoint.{sideCountOf}
 use Rattle.endpoint.specs.declared.EndpointData.{EndpointData}
 use Rattle.strip.specs.declared.section.Section.{Section}
 use Rattle.strip.specs.Joint.{jointCount}
+use Rattle.pieces.specs.Limits.{numberLimit}
 
 -- "A section is (N, P), its negative and positive vertex."
 abbrev pub sectionOf : ℕ → ℕ → Section
@@ -25,5 +26,5 @@ sections base (j ∷ js) = beforeOf base j ∷ afterOf base j ∷ sections (base
 
 -- a u16 holds the section's numbers
 pub record Narrow (s : Section) : Type 0 where
-  pub n : s .negative .0 < 65536
-  pub p : s .positive .0 < 65536
+  pub n : s .negative .0 < numberLimit
+  pub p : s .positive .0 < numberLimit

@@ -3,20 +3,10 @@ use Prim.Native.Nat.{ℕ}
 use mathlib.Core.Bool.{Bool, false, not, cond}
 use mathlib.Core.List.{List, [], _∷_, _++_}
 use lib.Dec.{eqb}
+use Rattle.triangles.specs.Tri.{Tri}
 use Rattle.endpoint.specs.declared.EndpointData.{EndpointData}
 use Rattle.strip.specs.declared.section.Section.{Section}
 use Rattle.strip.specs.Section.{sections}
-
--- a triangle is the numbers of its three vertices
-pub record Tri : Type 0 where
-  pub a : ℕ
-  pub b : ℕ
-  pub c : ℕ
-
--- "three u16 to a triangle"
-unfoldable pub flatT : List Tri → List ℕ
-flatT [] = []
-flatT (t ∷ ts) = (t .a ∷ t .b ∷ t .c ∷ []) ++ flatT ts
 
 -- no two of the numbers are equal
 unfoldable pub different : ℕ → ℕ → ℕ → Bool

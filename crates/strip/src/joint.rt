@@ -8,6 +8,7 @@ ghost use Prim.Native.Nat.{_*_, _≤_};
 ghost use lib.ListN.{length};
 ghost use Rattle.endpoint.specs.Endpoint.{sideCountOf};
 ghost use Rattle.lists.specs.Over.{over};
+ghost use Rattle.pieces.specs.Piece.{flatV};
 ghost use Rattle.strip.specs.Joint.{jointCount, jointVerticesOf};
 
 // How many vertices a joint has on each side.
@@ -28,7 +29,7 @@ pub fn negative_count(j: EndpointData) -> usize
 // Both sides' vertices.
 pub fn write_vertices(v: &mut [f32], j: EndpointData)
     requires { ⌜ 5 * jointCount j ≤ length (now v) ⌝ }
-    ensures { λ _. ⌜ now (v .exit) ≡ over (jointVerticesOf j) (now (v .entry)) ⌝ }
+    ensures { λ _. ⌜ now (v .exit) ≡ over (flatV (jointVerticesOf j)) (now (v .entry)) ⌝ }
 {
     add_join_base_vertices(v, j, Side::Positive);
     let at = 5 * positive_count(j);

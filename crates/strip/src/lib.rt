@@ -1,5 +1,5 @@
 // A run's strip: its joints, one by one, become vertices, sections and triangles (rules 8 and 9 of
-// document 01). `write` is at the start of the parts lent, `put` behind what the state counts.
+// document 01).
 use crate::joint::write_vertices;
 use crate::section::Section;
 use crate::section::after;
@@ -10,42 +10,43 @@ use crate::triangle::write_past;
 use endpoint::EndpointData;
 use endpoint::VertexId;
 use endpoint::vertex_after;
+use pieces::Index;
+use pieces::Place;
+use pieces::next_vertex;
 ghost use mathlib.Core.Bool.{true, cond};
 ghost use mathlib.Core.Path.{_≡_};
 ghost use mathlib.Core.List.{[], _∷_};
 ghost use Prim.Native.Nat.{_+_, _-_, _*_, _≤_, _<_};
 ghost use lib.ListN.{length};
 ghost use Rattle.lists.specs.Over.{over};
-ghost use Rattle.strip.specs.Triangle.{flatT, between};
-ghost use Rattle.strip.specs.Strip.{Sound, Room, Emits, Space, Lays, Steps, startOf, steppedOf};
+ghost use Rattle.pieces.specs.Piece.{flatT, lent, laid, Lays};
+ghost use Rattle.strip.specs.Triangle.{between};
+ghost use Rattle.strip.specs.Strip.{Sound, Has, Steps, startOf, steppedOf, pieceOf};
+ghost use Rattle.pieces.specs.Limits.{numberLimit};
 
 pub mod joint;
 pub mod section;
 mod triangle;
 
-// How far a run's strip has come: the number of its first vertex, what it has so far, and its
-// first and its last section once it has begun.
+// How far a run's strip has come: where the next vertex and the next triangle go, and its first and
+// its last section once it has begun.
 pub struct Strip {
-    pub base: VertexId,
-    pub vertices: usize,
-    pub triangles: usize,
+    pub place: Place,
     pub begun: bool,
     pub first: Section,
     pub last: Section,
 }
 
-// A run whose vertices are numbered from base.
-pub fn start(base: VertexId) -> Strip
-    ensures { λ r. ⌜ r ≡ startOf (base .0) ⌝ }
+// A run that is written from a place on; its vertices are numbered from there.
+pub fn start(place: Place) -> Strip
+    ensures { λ r. ⌜ r ≡ startOf place ⌝ }
 {
     let none = Section {
         negative: VertexId(0),
         positive: VertexId(0),
     };
     Strip {
-        base,
-        vertices: 0,
-        triangles: 0,
+        place,
         begun: false,
         first: none,
         last: none,
@@ -53,32 +54,25 @@ pub fn start(base: VertexId) -> Strip
 }
 
 // One joint more: from the last section to the one before it, and on to the one after it.
-fn write_joint(v: &mut [f32], t: &mut [u16], s: Strip, j: EndpointData)
-    requires { ⌜ Room s (j ∷ []) (now v) (now t) ⌝ }
-    ensures { λ _. ⌜ Emits (j ∷ []) s (now (v .entry)) (now (v .exit)) (now (t .entry)) (now (t .exit)) ⌝ }
+pub fn put_joint(v: &mut [f32], t: &mut [Index], s: Strip, j: EndpointData)
+    requires { ⌜ Has true s (j ∷ []) (lent (now v) (now t)) ⌝ }
+    ensures { λ _. ⌜ lent (now (v .exit)) (now (t .exit)) ≡ laid (s .place) (pieceOf s (j ∷ [])) (lent (now (v .entry)) (now (t .entry))) ⌝ }
 {
-    let base = vertex_after(s.base, s.vertices);
-    let b = before(base, j);
-    let a = after(base, j);
+    let place = s.place;
+    let next = next_vertex(place);
+    let b = before(next, j);
+    let a = after(next, j);
     let last = choose(s.begun, s.last, b);
-    write_vertices(v, j);
-    write_past(t, last, b, a);
-}
-
-// The same, behind what the state counts.
-pub fn put_joint(v: &mut [f32], t: &mut [u16], s: Strip, j: EndpointData)
-    requires { ⌜ Space s (j ∷ []) (now v) (now t) ⌝ }
-    ensures { λ _. ⌜ Lays (j ∷ []) s (now (v .entry)) (now (v .exit)) (now (t .entry)) (now (t .exit)) ⌝ }
-{
-    let at = 5 * s.vertices;
-    let to = 3 * s.triangles;
-    write_joint(&mut v[at..], &mut t[to..], s, j);
+    let at = 5 * place.vertices;
+    write_vertices(&mut v[at..], j);
+    let to = 3 * place.triangles;
+    write_past(&mut t[to..], last, b, a);
 }
 
 // The same where a pass writes.
-pub fn lay_joint(v: &mut [f32], t: &mut [u16], s: Strip, j: EndpointData, write: bool)
-    requires { ⌜ (write ≡ true → Space s (j ∷ []) (now v) (now t)) ⌝ }
-    ensures { λ _. ⌜ (write ≡ true → Lays (j ∷ []) s (now (v .entry)) (now (v .exit)) (now (t .entry)) (now (t .exit))) ⌝ }
+pub fn lay_joint(v: &mut [f32], t: &mut [Index], s: Strip, j: EndpointData, write: bool)
+    requires { ⌜ Has write s (j ∷ []) (lent (now v) (now t)) ⌝ }
+    ensures { λ _. ⌜ Lays write (s .place) (pieceOf s (j ∷ [])) (lent (now (v .entry)) (now (t .entry))) (lent (now (v .exit)) (now (t .exit))) ⌝ }
 {
     if write {
         put_joint(v, t, s, j);
@@ -87,7 +81,7 @@ pub fn lay_joint(v: &mut [f32], t: &mut [u16], s: Strip, j: EndpointData, write:
 
 // Each vertex brings a triangle, but for the first two of a run.
 fn more_triangles(begun: bool, triangles: usize, vertices: usize) -> usize
-    requires { ⌜ (triangles < 65536) × (2 ≤ vertices) × (vertices ≤ 4) ⌝ }
+    requires { ⌜ (triangles < numberLimit) × (2 ≤ vertices) × (vertices ≤ 4) ⌝ }
     ensures { λ r. ⌜ r ≡ cond begun (triangles + vertices) (triangles + vertices - 2) ⌝ }
 {
     if begun {
@@ -101,17 +95,20 @@ pub fn step(s: Strip, positive: usize, negative: usize) -> Strip
     requires { ⌜ Steps s positive negative ⌝ }
     ensures { λ r. ⌜ r ≡ steppedOf s positive negative ⌝ }
 {
-    let base = s.base;
-    let next = vertex_after(base, s.vertices);
+    let place = s.place;
+    let base = place.base;
+    let next = next_vertex(place);
     let n = positive + negative;
     let before = Section {
         negative: vertex_after(next, positive),
         positive: next,
     };
     Strip {
-        base,
-        vertices: s.vertices + n,
-        triangles: more_triangles(s.begun, s.triangles, n),
+        place: Place {
+            base,
+            vertices: place.vertices + n,
+            triangles: more_triangles(s.begun, place.triangles, n),
+        },
         begun: true,
         first: choose(s.begun, s.first, before),
         last: Section {
@@ -122,7 +119,7 @@ pub fn step(s: Strip, positive: usize, negative: usize) -> Strip
 }
 
 // A closed run goes round to its first section. The result is the number of triangles.
-pub fn write_close(t: &mut [u16], s: Strip) -> usize
+pub fn write_close(t: &mut [Index], s: Strip) -> usize
     requires { ⌜ 3 * length (between (s .last) (s .first)) ≤ length (now t) ⌝ }
     requires { ⌜ Sound s ⌝ }
     ensures { λ r. ⌜ r ≡ length (between (s .last) (s .first)) ⌝ }

@@ -1,6 +1,6 @@
 -- Rule 8: "A vertex's normal is (point - position)/h and its place is position + normal*h, as in `StrokeVertex`. Order: positive side, then
 -- negative; in a pair, first point then second." Assumes nothing.
-use mathlib.Core.List.{List, _++_}
+use mathlib.Core.List.{List, [], _∷_}
 use lib.Ieee.{Float}
 use Rattle.plane.specs.Vector.{point, plusOf, minusOf, timesOf, overOf}
 use Rattle.endpoint.specs.declared.EndpointData.{EndpointData}
@@ -8,21 +8,22 @@ use Rattle.endpoint.specs.declared.Side.{Side}
 use Rattle.endpoint.specs.declared.Side.the-variants.{Positive, Negative}
 use Rattle.endpoint.specs.declared.SidePoints.{SidePoints}
 use Rattle.endpoint.specs.declared.SidePoints.the-variants.{Single, Pair}
+use Rattle.pieces.specs.Piece.{Vertex}
 use Rattle.vertices.specs.Vertex.{vertexOf}
 
 -- the vertex of the point (x, y) beside the endpoint e
-unfoldable pub baseVertexOf : EndpointData → Float → Float → List Float
+unfoldable pub baseVertexOf : EndpointData → Float → Float → Vertex
 baseVertexOf e x y =
     let normal = overOf (minusOf (point x y) (e .position)) (e .«half_width») in
     vertexOf (plusOf (e .position) (timesOf normal (e .«half_width»))) normal (e .advancement)
 
-unfoldable pub sideVerticesOf : EndpointData → SidePoints → List Float
-sideVerticesOf e (Single x y) = baseVertexOf e x y
-sideVerticesOf e (Pair x0 y0 x1 y1) = baseVertexOf e x0 y0 ++ baseVertexOf e x1 y1
+unfoldable pub sideVerticesOf : EndpointData → SidePoints → List Vertex
+sideVerticesOf e (Single x y) = baseVertexOf e x y ∷ []
+sideVerticesOf e (Pair x0 y0 x1 y1) = baseVertexOf e x0 y0 ∷ baseVertexOf e x1 y1 ∷ []
 
 abbrev pub sidePointsOf : EndpointData → Side → SidePoints
 sidePointsOf e Positive = e .positive
 sidePointsOf e Negative = e .negative
 
-abbrev pub baseVerticesOf : EndpointData → Side → List Float
+abbrev pub baseVerticesOf : EndpointData → Side → List Vertex
 baseVerticesOf e side = sideVerticesOf e (sidePointsOf e side)

@@ -1,12 +1,12 @@
--- "five f32 to a vertex (x, y, normal x, normal y, advancement) and three u16 to a triangle". Assumes nothing.
-use Prim.Native.Nat.{ℕ}
-use mathlib.Core.List.{List, [], _∷_}
+-- One vertex and one triangle. Assumes nothing.
 use lib.Ieee.{Float}
+use Rattle.pieces.specs.Piece.{Vertex}
+use Rattle.triangles.specs.Tri.{Tri}
 use Rattle.plane.specs.declared.vector.Point.{Point}
 use Rattle.endpoint.specs.declared.VertexId.{VertexId}
 
-unfoldable pub vertexOf : Point → Point → Float → List Float
-vertexOf place normal a = place .x ∷ place .y ∷ normal .x ∷ normal .y ∷ a ∷ []
+unfoldable pub vertexOf : Point → Point → Float → Vertex
+vertexOf place normal a = record { x = place .x; y = place .y; normalX = normal .x; normalY = normal .y; advancement = a }
 
-unfoldable pub triangleOf : VertexId → VertexId → VertexId → List ℕ
-triangleOf a b c = a .0 ∷ b .0 ∷ c .0 ∷ []
+unfoldable pub triangleOf : VertexId → VertexId → VertexId → Tri
+triangleOf a b c = record { a = a .0; b = b .0; c = c .0 }

@@ -1,16 +1,20 @@
 // One vertex and one triangle at the start of a part.
 use endpoint::VertexId;
+use pieces::Index;
 use plane::vector::Point;
 ghost use mathlib.Core.Path.{_≡_};
 ghost use Prim.Native.Nat.{_≤_, _<_};
 ghost use lib.ListN.{length};
 ghost use Rattle.lists.specs.Over.{over};
+ghost use Rattle.pieces.specs.Piece.{floatsOf};
+ghost use Rattle.triangles.specs.Tri.{numbersOf};
 ghost use Rattle.vertices.specs.Vertex.{vertexOf, triangleOf};
+ghost use Rattle.pieces.specs.Limits.{numberLimit};
 
 // Five floats: place, normal, advancement.
 pub fn put_vertex(v: &mut [f32], place: Point, normal: Point, a: f32)
     requires { ⌜ 5 ≤ length (now v) ⌝ }
-    ensures { λ _. ⌜ now (v .exit) ≡ over (vertexOf place normal a) (now (v .entry)) ⌝ }
+    ensures { λ _. ⌜ now (v .exit) ≡ over (floatsOf (vertexOf place normal a)) (now (v .entry)) ⌝ }
 {
     v[0] = place.x;
     v[1] = place.y;
@@ -20,12 +24,12 @@ pub fn put_vertex(v: &mut [f32], place: Point, normal: Point, a: f32)
 }
 
 // Three numbers of vertices.
-pub fn put_triangle(t: &mut [u16], a: VertexId, b: VertexId, c: VertexId)
+pub fn put_triangle(t: &mut [Index], a: VertexId, b: VertexId, c: VertexId)
     requires { ⌜ 3 ≤ length (now t) ⌝ }
-    requires { ⌜ (a .0 < 65536) × (b .0 < 65536) × (c .0 < 65536) ⌝ }
-    ensures { λ _. ⌜ now (t .exit) ≡ over (triangleOf a b c) (now (t .entry)) ⌝ }
+    requires { ⌜ (a .0 < numberLimit) × (b .0 < numberLimit) × (c .0 < numberLimit) ⌝ }
+    ensures { λ _. ⌜ now (t .exit) ≡ over (numbersOf (triangleOf a b c)) (now (t .entry)) ⌝ }
 {
-    t[0] = a.0 as u16;
-    t[1] = b.0 as u16;
-    t[2] = c.0 as u16;
+    t[0] = a.0 as Index;
+    t[1] = b.0 as Index;
+    t[2] = c.0 as Index;
 }

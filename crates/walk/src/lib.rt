@@ -9,21 +9,23 @@ use endpoint::EndpointId;
 use join::record::Counts;
 use join::record::counts_of;
 use path::options::Stroke;
+use pieces::Index;
 use points::endpoint_at;
 use strip::Strip;
 use strip::put_joint;
 use strip::step;
-ghost use mathlib.Core.Bool.{true};
 ghost use mathlib.Core.List.{[], _∷_};
 ghost use mathlib.Core.Path.{_≡_};
 ghost use Prim.Native.Nat.{_≤_};
 ghost use lib.ListN.{length, drop};
 ghost use Rattle.course.specs.Joint.{jointOf};
-ghost use Rattle.course.specs.Walk.{advanced, drops, visited, passed};
+ghost use Rattle.course.specs.Leg.{nextLegOf};
+ghost use Rattle.course.specs.Walk.{advanced, drops, visitOf, visited, walked, passed};
 ghost use Rattle.join.specs.Record.{countsOf};
 ghost use Rattle.points.specs.Points.{endpointsOf};
-ghost use Rattle.strip.specs.Strip.{Has, Space, Lays};
-ghost use Rattle.walk.specs.Walk.{Advances, Visits, Passes};
+ghost use Rattle.pieces.specs.Piece.{lent, Lays};
+ghost use Rattle.strip.specs.Strip.{Has, pieceOf};
+ghost use Rattle.walk.specs.Walk.{Walks};
 
 // How far a run has come: the leg reached, and what is written or counted.
 pub struct Walk {
@@ -35,16 +37,16 @@ pub struct Walk {
 // its sides have.
 fn lay(
     v: &mut [f32],
-    t: &mut [u16],
+    t: &mut [Index],
     o: Stroke,
     leg: Leg,
     strip: Strip,
     next: Leg,
     write: bool,
 ) -> Counts
-    requires { ⌜ (write ≡ true → Space strip (jointOf o leg next ∷ []) (now v) (now t)) ⌝ }
+    requires { ⌜ Has write strip (jointOf o leg next ∷ []) (lent (now v) (now t)) ⌝ }
     ensures { λ r. ⌜ r ≡ countsOf (jointOf o leg next) ⌝ }
-    ensures { λ _. ⌜ (write ≡ true → Lays (jointOf o leg next ∷ []) strip (now (v .entry)) (now (v .exit)) (now (t .entry)) (now (t .exit))) ⌝ }
+    ensures { λ _. ⌜ Lays write (strip .place) (pieceOf strip (jointOf o leg next ∷ [])) (lent (now (v .entry)) (now (t .entry))) (lent (now (v .exit)) (now (t .exit))) ⌝ }
 {
     if write {
         let j = joint_of(o, leg, next);
@@ -55,9 +57,9 @@ fn lay(
 }
 
 // The next point, which is kept.
-fn advance(v: &mut [f32], t: &mut [u16], o: Stroke, w: Walk, p: Endpoint, write: bool) -> Walk
-    requires { ⌜ Has write (w .strip) (advanced o (w .leg) p) (now v) (now t) ⌝ }
-    ensures { λ r. ⌜ Advances write o w p (now (v .entry)) (now (v .exit)) (now (t .entry)) (now (t .exit)) r ⌝ }
+fn advance(v: &mut [f32], t: &mut [Index], o: Stroke, w: Walk, p: Endpoint, write: bool) -> Walk
+    requires { ⌜ Has write (w .strip) (advanced o (w .leg) p) (lent (now v) (now t)) ⌝ }
+    ensures { λ r. ⌜ Walks write (advanced o (w .leg) p) (nextLegOf (o .«half_width») (w .leg) p) w (lent (now (v .entry)) (now (t .entry))) (lent (now (v .exit)) (now (t .exit))) r ⌝ }
 {
     let leg = w.leg;
     let strip = w.strip;
@@ -83,15 +85,15 @@ fn is_dropped(sure: bool, leg: Leg, p: Endpoint) -> bool
 // The next point, which may be dropped.
 fn visit(
     v: &mut [f32],
-    t: &mut [u16],
+    t: &mut [Index],
     o: Stroke,
     w: Walk,
     p: Endpoint,
     sure: bool,
     write: bool,
 ) -> Walk
-    requires { ⌜ Has write (w .strip) (visited sure o (w .leg) p) (now v) (now t) ⌝ }
-    ensures { λ r. ⌜ Visits sure write o w p (now (v .entry)) (now (v .exit)) (now (t .entry)) (now (t .exit)) r ⌝ }
+    requires { ⌜ Has write (w .strip) (visited sure o (w .leg) p) (lent (now v) (now t)) ⌝ }
+    ensures { λ r. ⌜ Walks write (visited sure o (w .leg) p) (visitOf sure (o .«half_width») (w .leg) p) w (lent (now (v .entry)) (now (t .entry))) (lent (now (v .exit)) (now (t .exit))) r ⌝ }
 {
     if is_dropped(sure, w.leg, p) {
         return w;
@@ -102,7 +104,7 @@ fn visit(
 // The points of p from one on; first is the number of the run's first endpoint.
 pub fn visit_all(
     v: &mut [f32],
-    t: &mut [u16],
+    t: &mut [Index],
     o: Stroke,
     w: Walk,
     p: &[f32],
@@ -112,8 +114,8 @@ pub fn visit_all(
     write: bool,
 ) -> Walk
     requires { ⌜ (length (now p) ≤ 8192) × (first .0 ≤ 8192) ⌝ }
-    requires { ⌜ Has write (w .strip) (passed sure o (w .leg) (drop from (endpointsOf (first .0) (now p)))) (now v) (now t) ⌝ }
-    ensures { λ r. ⌜ Passes sure write o w (drop from (endpointsOf (first .0) (now (p .entry)))) (now (v .entry)) (now (v .exit)) (now (t .entry)) (now (t .exit)) r ⌝ }
+    requires { ⌜ Has write (w .strip) (passed sure o (w .leg) (drop from (endpointsOf (first .0) (now p)))) (lent (now v) (now t)) ⌝ }
+    ensures { λ r. ⌜ Walks write (passed sure o (w .leg) (drop from (endpointsOf (first .0) (now (p .entry))))) (walked sure (o .«half_width») (w .leg) (drop from (endpointsOf (first .0) (now (p .entry))))) w (lent (now (v .entry)) (now (t .entry))) (lent (now (v .exit)) (now (t .exit))) r ⌝ }
 {
     let mut w = w;
     let mut i = from;

@@ -1,6 +1,6 @@
 -- `mesh::count_accepted` meets its contract. Assumes nothing.
 use borrow.Author.Needs.{needs}
-use Rattle.mesh.proofs.Rooms.{sound-paired, counts-has, counted}
+use Rattle.mesh.proofs.Rooms.{sound-paired, counts-fit, counted}
 use Rattle.mesh.proofs.count_accepted.Statement.{statement}
 use Rattle.mesh.proofs.count_accepted.Tie as tie
 
@@ -17,7 +17,7 @@ slice-aggregate-draw-runs-2 : tie.Need-slice-aggregate-draw-runs-2
 slice-aggregate-draw-runs-2 c = search needs
 
 draw-runs-requires : tie.Need-draw-runs-requires
-draw-runs-requires c κs = (sound-paired _ _ (c .before .before .before .before .before .before .pre), counts-has _ _ _ (c .before .before .before .before .before .before .pre) _ _)
+draw-runs-requires c κs = (sound-paired _ _ (c .before .before .before .before .before .before .pre), counts-fit _ _ _ (c .before .before .before .before .before .before .pre) _)
 
 same-length : tie.Need-same-length
 same-length c = search needs
@@ -26,7 +26,7 @@ same-length-2 : tie.Need-same-length-2
 same-length-2 c = search needs
 
 returns : tie.Need-returns
-returns c = counted _ _ _ _ _ _ _ _ _ (search needs) (search needs) (c .before .before .before .before .draw-runs .ensures)
+returns c = counted _ _ _ _ _ _ (search needs) (search needs) (c .before .before .before .before .draw-runs .ensures)
 
 pub count-accepted-spec : {M : Type 1} → statement M
 count-accepted-spec =

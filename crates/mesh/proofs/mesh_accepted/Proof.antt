@@ -1,7 +1,7 @@
 -- `mesh::mesh_accepted` meets its contract. Assumes nothing.
 use borrow.Author.Needs.{needs}
 use mathlib.Core.Path.{sym, _∙_}
-use Rattle.mesh.proofs.Rooms.{sound-paired, plenty-has, plenty-drawn, mesh-has, is-drawn, is-refused}
+use Rattle.mesh.proofs.Rooms.{sound-paired, plenty-fits, plenty-drawn, mesh-fits, is-drawn, is-refused}
 use Rattle.mesh.proofs.mesh_accepted.Statement.{statement}
 use Rattle.mesh.proofs.mesh_accepted.Tie as tie
 
@@ -9,7 +9,7 @@ is-plenty-requires : tie.Need-is-plenty-requires
 is-plenty-requires c κs = search needs
 
 draw-runs-requires : tie.Need-draw-runs-requires
-draw-runs-requires c κs = (sound-paired _ _ (c .before .before .before .before .before .before .before .before .pre .1), plenty-has _ _ _ (c .before .before .before .before .before .before .before .before .pre .1) (c .before .before .before .before .before .before .before .before .pre .0) _ _ (c .before .before .before .is-plenty .ensures (c .before .before .if1 .taken)))
+draw-runs-requires c κs = (sound-paired _ _ (c .before .before .before .before .before .before .before .before .pre .1), plenty-fits _ _ _ (c .before .before .before .before .before .before .before .before .pre .1) (c .before .before .before .before .before .before .before .before .pre .0) _ (c .before .before .before .is-plenty .ensures (c .before .before .if1 .taken)))
 
 same-length : tie.Need-same-length
 same-length c = search needs
@@ -18,7 +18,7 @@ same-length-2 : tie.Need-same-length-2
 same-length-2 c = search needs
 
 returns : tie.Need-returns
-returns c = plenty-drawn _ _ _ (c .before .before .before .before .before .before .before .before .before .before .before .before .before .pre .1) (c .before .before .before .before .before .before .before .before .before .before .before .before .before .pre .0) _ _ (c .before .before .before .before .before .before .before .before .is-plenty .ensures (c .before .before .before .before .before .before .before .if1 .taken)) _ _ _ (c .before .before .before .before .draw-runs .ensures)
+returns c = plenty-drawn _ _ _ (c .before .before .before .before .before .before .before .before .before .before .before .before .before .pre .1) (c .before .before .before .before .before .before .before .before .before .before .before .before .before .pre .0) _ (c .before .before .before .before .before .before .before .before .is-plenty .ensures (c .before .before .before .before .before .before .before .if1 .taken)) (c .before .before .before .before .draw-runs .ensures)
 
 count-accepted-requires : tie.Need-count-accepted-requires
 count-accepted-requires c κs = c .before .before .before .before .before .before .before .before .pre .1
@@ -30,7 +30,7 @@ fits-requires : tie.Need-fits-requires
 fits-requires c κs = search needs
 
 draw-runs-requires-2 : tie.Need-draw-runs-requires-2
-draw-runs-requires-2 c κs = (sound-paired _ _ (c .before .before .before .before .before .before .before .before .before .before .before .before .before .before .before .before .before .before .pre .1), mesh-has _ _ _ (c .before .before .before .before .before .before .before .before .before .before .before .before .before .before .before .before .before .before .pre .1) (c .before .before .before .before .before .before .before .before .before .before .before .before .before .before .before .before .before .before .pre .0) _ _ _ _ _ (c .before .before .before .before .before .before .before .before .before .count-accepted .ensures) _ (c .before .before .before .before .judged .ensures) (sym (c .before .before .before .fits2 .ensures) ∙ c .before .before .if2 .taken))
+draw-runs-requires-2 c κs = (sound-paired _ _ (c .before .before .before .before .before .before .before .before .before .before .before .before .before .before .before .before .before .before .pre .1), mesh-fits _ _ _ (c .before .before .before .before .before .before .before .before .before .before .before .before .before .before .before .before .before .before .pre .1) (c .before .before .before .before .before .before .before .before .before .before .before .before .before .before .before .before .before .before .pre .0) _ (c .before .before .before .before .before .before .before .before .before .count-accepted .ensures) _ (c .before .before .before .before .judged .ensures) (sym (c .before .before .before .fits2 .ensures) ∙ c .before .before .if2 .taken))
 
 same-length-3 : tie.Need-same-length-3
 same-length-3 c = search needs
@@ -39,7 +39,7 @@ same-length-4 : tie.Need-same-length-4
 same-length-4 c = search needs
 
 returns-2 : tie.Need-returns-2
-returns-2 c = is-drawn _ _ _ (c .before .before .before .before .before .before .before .before .before .before .before .before .before .before .before .before .before .before .before .before .before .before .before .pre .1) (c .before .before .before .before .before .before .before .before .before .before .before .before .before .before .before .before .before .before .before .before .before .before .before .pre .0) _ _ _ _ _ (c .before .before .before .before .before .before .before .before .before .before .before .before .before .before .count-accepted .ensures) _ (c .before .before .before .before .before .before .before .before .before .judged .ensures) (sym (c .before .before .before .before .before .before .before .before .fits2 .ensures) ∙ c .before .before .before .before .before .before .before .if2 .taken) _ _ _ (c .before .before .before .before .draw-runs2 .ensures)
+returns-2 c = is-drawn _ _ _ (c .before .before .before .before .before .before .before .before .before .before .before .before .before .before .before .before .before .before .before .before .before .before .before .pre .1) (c .before .before .before .before .before .before .before .before .before .before .before .before .before .before .before .before .before .before .before .before .before .before .before .pre .0) _ (c .before .before .before .before .before .before .before .before .before .before .before .before .before .before .count-accepted .ensures) _ (c .before .before .before .before .before .before .before .before .before .judged .ensures) (sym (c .before .before .before .before .before .before .before .before .fits2 .ensures) ∙ c .before .before .before .before .before .before .before .if2 .taken) (c .before .before .before .before .draw-runs2 .ensures)
 
 same-length-5 : tie.Need-same-length-5
 same-length-5 c = search needs
@@ -48,7 +48,7 @@ same-length-6 : tie.Need-same-length-6
 same-length-6 c = search needs
 
 returns-3 : tie.Need-returns-3
-returns-3 c = is-refused _ _ _ (c .before .before .before .before .before .before .before .before .before .before .before .before .before .before .before .before .pre .1) (c .before .before .before .before .before .before .before .before .before .before .before .before .before .before .before .before .pre .0) _ _ _ _ _ (c .before .before .before .before .before .before .before .count-accepted .ensures) _ (c .before .before .judged .ensures) (sym (c .before .fits2 .ensures) ∙ c .if2 .left)
+returns-3 c = is-refused _ _ _ (c .before .before .before .before .before .before .before .before .before .before .before .before .before .before .before .before .pre .1) (c .before .before .before .before .before .before .before .before .before .before .before .before .before .before .before .before .pre .0) _ (c .before .before .before .before .before .before .before .count-accepted .ensures) _ (c .before .before .judged .ensures) (sym (c .before .fits2 .ensures) ∙ c .if2 .left)
 
 pub mesh-accepted-spec : {M : Type 1} → statement M
 mesh-accepted-spec =

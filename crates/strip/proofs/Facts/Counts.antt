@@ -6,7 +6,7 @@ use mathlib.Core.List.{List, [], _∷_}
 use native.Mathlib.Omega.{arith}
 use lib.ListN.{length, length-append}
 use Rattle.endpoint.specs.declared.EndpointData.{EndpointData}
-use Rattle.strip.specs.Facts.{pairSides}
+use Rattle.strip.specs.Joint.{pairSides}
 use Rattle.strip.specs.Joint.{jointCount, vertexCount}
 use Rattle.strip.specs.Triangle.{trianglesOf}
 use Rattle.strip.proofs.Joints.{side-few, count-more}

@@ -8,7 +8,7 @@ use Rattle.endpoint.specs.Endpoint.{sideCountOf}
 use Rattle.endpoint.specs.declared.EndpointData.{EndpointData}
 use Rattle.endpoint.specs.declared.SidePoints.{SidePoints}
 use Rattle.endpoint.specs.declared.SidePoints.the-variants.{Single, Pair}
-use Rattle.strip.specs.Facts.{In}
+use Rattle.triangles.specs.Facts.{In}
 use Rattle.strip.specs.Joint.{jointCount}
 use Rattle.strip.proofs.Joints.{side-few}
 use Rattle.strip.proofs.Facts.Ladder.{Move, toP, toN, beforeN, afterN, afterP, inP, inN, inner}

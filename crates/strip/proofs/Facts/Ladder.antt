@@ -11,7 +11,8 @@ use Rattle.endpoint.specs.declared.SidePoints.{SidePoints}
 use Rattle.endpoint.specs.declared.SidePoints.the-variants.{Single, Pair}
 use Rattle.strip.specs.Joint.{jointCount}
 use Rattle.strip.specs.Section.{sectionOf, beforeOf, afterOf}
-use Rattle.strip.specs.Triangle.{Tri, between}
+use Rattle.triangles.specs.Tri.{Tri}
+use Rattle.strip.specs.Triangle.{between}
 use Rattle.strip.proofs.Triangles.{tri-yes, tri-end, tri-ends}
 
 -- from the section (N, P) to one whose positive, or whose negative vertex is x

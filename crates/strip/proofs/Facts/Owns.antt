@@ -9,7 +9,7 @@ use Rattle.endpoint.specs.Endpoint.{sideCountOf}
 use Rattle.endpoint.specs.declared.EndpointData.{EndpointData}
 use Rattle.endpoint.specs.declared.SidePoints.{SidePoints}
 use Rattle.endpoint.specs.declared.SidePoints.the-variants.{Single, Pair}
-use Rattle.strip.specs.Facts.{In, AllOwn}
+use Rattle.triangles.specs.Facts.{In, AllOwn}
 use Rattle.strip.specs.Joint.{jointCount, vertexCount}
 use Rattle.strip.specs.Triangle.{trianglesOf}
 use Rattle.strip.proofs.Joints.{side-few, count-more}

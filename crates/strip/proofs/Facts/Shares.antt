@@ -7,7 +7,7 @@ use mathlib.Core.Logic.{_≢_}
 use lib.Dec.{eqb}
 use borrow.Author.Tests.{eq-eqb, ne-eqb}
 use Rattle.endpoint.specs.declared.EndpointData.{EndpointData}
-use Rattle.strip.specs.Facts.{inTri, shared, Chain, Linked}
+use Rattle.triangles.specs.Facts.{inTri, shared, Chain, Linked}
 use Rattle.strip.specs.Joint.{jointCount}
 use Rattle.strip.specs.Triangle.{trianglesOf}
 use Rattle.strip.proofs.Facts.Ladder.{Move, toP, toN, ladder, beforeN, inner}

@@ -6,7 +6,7 @@ use Rattle.strip.proofs.lay_joint.Statement.{statement}
 use Rattle.strip.proofs.lay_joint.Tie as tie
 
 put-joint-requires : tie.Need-put-joint-requires
-put-joint-requires c κs = c .before .before .before .before .before .pre (c .before .before .if1 .taken)
+put-joint-requires c κs = rw (c .before .before .if1 .taken) at (c .before .before .before .before .before .pre)
 
 same-length : tie.Need-same-length
 same-length c = search needs

@@ -1,41 +1,58 @@
--- `strip::put_joint` meets its contract. Assumes nothing.
 use borrow.Author.Needs.{needs}
-use Rattle.strip.proofs.Writing.{lays-behind}
+use native.Mathlib.Omega.{arith}
+use lib.ListN.{length-take, length-drop}
+use Rattle.strip.proofs.Writing.{numbers-fit, vertices-fit, triangles-fit, narrow, joint-laid}
 use Rattle.strip.proofs.put_joint.Statement.{statement}
 use Rattle.strip.proofs.put_joint.Tie as tie
 
+next-vertex-requires : tie.Need-next-vertex-requires
+next-vertex-requires c κs = omega (arith, numbers-fit (c .before .before .before .pre))
+
+before-requires : tie.Need-before-requires
+before-requires c κs = rw (c .next-vertex .ensures) (numbers-fit (c .before .before .before .before .pre))
+
+after-requires : tie.Need-after-requires
+after-requires c κs = rw (c .before .next-vertex .ensures) (numbers-fit (c .before .before .before .before .before .pre))
+
+choose-requires : tie.Need-choose-requires
+choose-requires c κs = search needs
+
 mul-at : tie.Need-mul-at
-mul-at c = search needs
+mul-at c = omega (arith, numbers-fit (c .before .before .before .before .before .before .before .before .pre))
+
+mul-write-vertices : tie.Need-mul-write-vertices
+mul-write-vertices c = omega (arith, numbers-fit (c .before .before .before .before .before .before .before .before .pre))
+
+sub-write-vertices : tie.Need-sub-write-vertices
+sub-write-vertices c = omega (arith, vertices-fit (c .before .before .before .before .before .before .before .before .pre))
+
+part-write-vertices-start : tie.Need-part-write-vertices-start
+part-write-vertices-start c = omega (arith, vertices-fit (c .before .before .before .before .before .before .before .before .pre))
+
+part-write-vertices-end : tie.Need-part-write-vertices-end
+part-write-vertices-end c = search needs
+
+write-vertices-requires : tie.Need-write-vertices-requires
+write-vertices-requires c κs = simp (length-take, length-drop) (omega (arith, vertices-fit (c .before .before .before .before .before .before .before .before .before .pre)))
 
 mul-to : tie.Need-mul-to
-mul-to c = search needs
+mul-to c = omega (arith, c .before .before .before .before .before .before .before .before .before .before .before .before .before .pre .fits .faces)
 
-mul-write-joint : tie.Need-mul-write-joint
-mul-write-joint c = search needs
+mul-write-past : tie.Need-mul-write-past
+mul-write-past c = omega (arith, c .before .before .before .before .before .before .before .before .before .before .before .before .before .pre .fits .faces)
 
-sub-write-joint : tie.Need-sub-write-joint
-sub-write-joint c = search needs
+sub-write-past : tie.Need-sub-write-past
+sub-write-past c = omega (arith, triangles-fit (c .before .before .before .before .before .before .before .before .before .before .before .before .before .pre) (record { before = rw (c .before .before .before .before .before .before .before .before .before .next-vertex .ensures) at (c .before .before .before .before .before .before .before .before .before2 .ensures); after = rw (c .before .before .before .before .before .before .before .before .before .next-vertex .ensures) at (c .before .before .before .before .before .before .before .after .ensures); last = c .before .before .before .before .before .before .choose .ensures }))
 
-part-write-joint-start : tie.Need-part-write-joint-start
-part-write-joint-start c = search needs
+part-write-past-start : tie.Need-part-write-past-start
+part-write-past-start c = omega (arith, triangles-fit (c .before .before .before .before .before .before .before .before .before .before .before .before .before .pre) (record { before = rw (c .before .before .before .before .before .before .before .before .before .next-vertex .ensures) at (c .before .before .before .before .before .before .before .before .before2 .ensures); after = rw (c .before .before .before .before .before .before .before .before .before .next-vertex .ensures) at (c .before .before .before .before .before .before .before .after .ensures); last = c .before .before .before .before .before .before .choose .ensures }))
 
-part-write-joint-end : tie.Need-part-write-joint-end
-part-write-joint-end c = search needs
+part-write-past-end : tie.Need-part-write-past-end
+part-write-past-end c = search needs
 
-mul-write-joint-2 : tie.Need-mul-write-joint-2
-mul-write-joint-2 c = search needs
-
-sub-write-joint-2 : tie.Need-sub-write-joint-2
-sub-write-joint-2 c = search needs
-
-part-write-joint-start-2 : tie.Need-part-write-joint-start-2
-part-write-joint-start-2 c = search needs
-
-part-write-joint-end-2 : tie.Need-part-write-joint-end-2
-part-write-joint-end-2 c = search needs
-
-write-joint-requires : tie.Need-write-joint-requires
-write-joint-requires c κs = search needs
+write-past-requires : tie.Need-write-past-requires
+write-past-requires c κs =
+    (simp (length-take, length-drop) (omega (arith, triangles-fit (c .before .before .before .before .before .before .before .before .before .before .before .before .before .before .pre) (record { before = rw (c .before .before .before .before .before .before .before .before .before .before .next-vertex .ensures) at (c .before .before .before .before .before .before .before .before .before .before2 .ensures); after = rw (c .before .before .before .before .before .before .before .before .before .before .next-vertex .ensures) at (c .before .before .before .before .before .before .before .before .after .ensures); last = c .before .before .before .before .before .before .before .choose .ensures }))), narrow (c .before .before .before .before .before .before .before .before .before .before .before .before .before .before .pre) (record { before = rw (c .before .before .before .before .before .before .before .before .before .before .next-vertex .ensures) at (c .before .before .before .before .before .before .before .before .before .before2 .ensures); after = rw (c .before .before .before .before .before .before .before .before .before .before .next-vertex .ensures) at (c .before .before .before .before .before .before .before .before .after .ensures); last = c .before .before .before .before .before .before .before .choose .ensures }))
 
 same-length : tie.Need-same-length
 same-length c = search needs
@@ -44,23 +61,28 @@ same-length-2 : tie.Need-same-length-2
 same-length-2 c = search needs
 
 returns : tie.Need-returns
-returns c = lays-behind _ _ _ _ _ _ (c .before .before .before .before .before .before .before .before .before .before .before .pre) (c .before .before .before .before .write-joint .ensures)
+returns c = joint-laid (c .before .before .before .before .before .before .before .before .before .before .before .before .before .before .before .before .before .pre) (record { before = rw (c .before .before .before .before .before .before .before .before .before .before .before .before .before .next-vertex .ensures) at (c .before .before .before .before .before .before .before .before .before .before .before .before .before2 .ensures); after = rw (c .before .before .before .before .before .before .before .before .before .before .before .before .before .next-vertex .ensures) at (c .before .before .before .before .before .before .before .before .before .before .before .after .ensures); last = c .before .before .before .before .before .before .before .before .before .before .choose .ensures }) _ _ (c .before .before .before .before .before .before .before .write-vertices .ensures) (c .before .before .write-past .ensures .1)
 
 pub put-joint-spec : {M : Type 1} → statement M
 put-joint-spec =
     tie.close
     (tie.spec
+    next-vertex-requires
+    before-requires
+    after-requires
+    choose-requires
     mul-at
+    mul-write-vertices
+    sub-write-vertices
+    part-write-vertices-start
+    part-write-vertices-end
+    write-vertices-requires
     mul-to
-    mul-write-joint
-    sub-write-joint
-    part-write-joint-start
-    part-write-joint-end
-    mul-write-joint-2
-    sub-write-joint-2
-    part-write-joint-start-2
-    part-write-joint-end-2
-    write-joint-requires
+    mul-write-past
+    sub-write-past
+    part-write-past-start
+    part-write-past-end
+    write-past-requires
     same-length
     same-length-2
     returns)

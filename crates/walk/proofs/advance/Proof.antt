@@ -1,7 +1,6 @@
--- `walk::advance` meets its contract. Assumes nothing.
+use borrow.Author.Needs.{needs}
 use Rattle.join.specs.Record.{countsOf}
 use Rattle.strip.proofs.Counting.{steps-one, puts-one}
-use borrow.Author.Needs.{needs}
 use Rattle.walk.proofs.advance.Statement.{statement}
 use Rattle.walk.proofs.advance.Tie as tie
 
@@ -9,7 +8,7 @@ next-leg-requires : tie.Need-next-leg-requires
 next-leg-requires c κs = search needs
 
 lay-requires : tie.Need-lay-requires
-lay-requires c κs = λ w. rw (c .before .before .next-leg .ensures) (c .before .before .before .before .before .before .before .pre .space w)
+lay-requires c κs = rw (c .before .before .next-leg .ensures) (c .before .before .before .before .before .before .before .pre)
 
 step-requires : tie.Need-step-requires
 unfolding countsOf
@@ -29,8 +28,7 @@ unfolding countsOf
 returns c =
     let laid = c .before .before .before .before .before .lay .ensures in
     let next = c .before .before .before .before .before .before .before .before .next-leg .ensures in
-    let puts = puts-one (c .before .before .before .before .before .before .before .before .before .before .before .before .before .pre) _ _ (rw (laid .0, next)) (rw (laid .0, next)) _ _ _ (c .step .ensures) (λ w. rw next at (laid .1 w)) in
-    record { leg = next; puts = puts }
+    record { leg = next; puts = puts-one (c .before .before .before .before .before .before .before .before .before .before .before .before .before .pre) _ _ (rw (laid .0, next)) (rw (laid .0, next)) (c .step .ensures) (λ w. rw next at (laid .1 w)) }
 
 pub advance-spec : {M : Type 1} → statement M
 advance-spec =

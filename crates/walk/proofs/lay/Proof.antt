@@ -1,7 +1,6 @@
--- `walk::lay` meets its contract. Assumes nothing.
+use borrow.Author.Needs.{needs}
 use mathlib.Core.Bool.{true≢false}
 use mathlib.Core.Path.{sym, _∙_}
-use borrow.Author.Needs.{needs}
 use Rattle.walk.proofs.lay.Statement.{statement}
 use Rattle.walk.proofs.lay.Tie as tie
 
@@ -9,7 +8,7 @@ joint-of-requires : tie.Need-joint-of-requires
 joint-of-requires c κs = search needs
 
 put-joint-requires : tie.Need-put-joint-requires
-put-joint-requires c κs = rw (c .before .before .joint-of .ensures) (c .before .before .before .before .before .before .pre (c .before .before .before .if1 .taken))
+put-joint-requires c κs = rw (c .before .before .joint-of .ensures) (rw (c .before .before .before .if1 .taken) at (c .before .before .before .before .before .before .pre))
 
 counts-of-requires : tie.Need-counts-of-requires
 counts-of-requires c κs = search needs

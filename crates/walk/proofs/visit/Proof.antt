@@ -4,34 +4,24 @@ use Rattle.course.specs.Walk.{visitOf, visited}
 use Rattle.strip.proofs.Pending.{puts-none}
 use Rattle.walk.proofs.visit.Statement.{statement}
 use Rattle.walk.proofs.visit.Tie as tie
-use Rattle.walk.proofs.visit.Reads as reads
-use Rattle.walk.proofs.visit.Lts as lts
-use Rattle.walk.proofs.advance.Reads as advance-reads
-use Rattle.walk.proofs.is_dropped.Reads as is-dropped-reads
 
--- src/lib.rt:83:8
 is-dropped-requires : tie.Need-is-dropped-requires
 is-dropped-requires c κs = search needs
 
--- src/lib.rt:84:9
 returns : tie.Need-returns
 unfolding visitOf visited
-returns c = let e = sym (c .before .is-dropped .ensures) ∙ c .if1 .taken in record { leg = rw e; puts = rw e (puts-none _ _ _ _) }
+returns c = let e = sym (c .before .is-dropped .ensures) ∙ c .if1 .taken in record { leg = rw e; puts = rw e puts-none }
 
--- src/lib.rt:86:5
 advance-requires : tie.Need-advance-requires
 unfolding visited
 advance-requires c κs = let e = sym (c .before .before .before .is-dropped .ensures) ∙ c .before .before .if1 .left in rw e at (c .before .before .before .before .before .before .pre)
 
--- src/lib.rt:71:1
 same-length : tie.Need-same-length
 same-length c = search needs
 
--- src/lib.rt:71:1
 same-length-2 : tie.Need-same-length-2
 same-length-2 c = search needs
 
--- src/lib.rt:71:1
 returns-2 : tie.Need-returns-2
 unfolding visitOf visited
 returns-2 c = let e = sym (c .before .before .before .before .before .before .before .before .is-dropped .ensures) ∙ c .before .before .before .before .before .before .before .if1 .left in record { leg = rw e (c .before .before .before .before .advance .ensures .leg); puts = rw e (c .before .before .before .before .advance .ensures .puts) }

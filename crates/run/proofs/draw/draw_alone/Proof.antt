@@ -1,7 +1,7 @@
--- `run::draw::draw_alone` meets its contract. Assumes nothing.
-use mathlib.Core.Path.{sym, _∙_}
-use Rattle.run.proofs.Whole.{draws-nothing, draws-cap, cap-place}
 use borrow.Author.Needs.{needs}
+use native.Mathlib.Omega.{arith}
+use mathlib.Core.Path.{sym, _∙_}
+use Rattle.run.proofs.Whole.{nothing-drawn, cap-fits, cap-few, cap-drawn}
 use Rattle.run.proofs.draw.draw_alone.Statement.{statement}
 use Rattle.run.proofs.draw.draw_alone.Tie as tie
 
@@ -9,8 +9,13 @@ draws-cap-requires : tie.Need-draws-cap-requires
 draws-cap-requires c κs = search needs
 
 lay-empty-cap-requires : tie.Need-lay-empty-cap-requires
-lay-empty-cap-requires c κs =
-    let e = sym (c .before .before .before .draws-cap .ensures) ∙ c .before .before .if1 .taken in cap-place _ _ _ _ _ _ (rw e at (c .before .before .before .before .before .before .pre))
+lay-empty-cap-requires c κs = let e = sym (c .before .before .before .draws-cap .ensures) ∙ c .before .before .if1 .taken in cap-fits (c .before .before .before .before .before .before .args .o) _ _ (c .before .before .before .before .before .before .args .p) (rw e at (c .before .before .before .before .before .before .pre))
+
+add-t16 : tie.Need-add-t16
+add-t16 c = let e = sym (c .before .before .before .before .before .before .before .before .before .before .draws-cap .ensures) ∙ c .before .before .before .before .before .before .before .before .before .if1 .taken in omega (arith, cap-few (c .before .before .before .before .before .before .before .before .before .before .before .before .before .args .o) (c .before .before .before .before .before .before .before .before .before .before .before .before .before .args .closed) (c .before .before .before .before .before .before .before .before .before .before .before .before .before .args .place) (c .before .before .before .before .before .before .before .before .before .before .before .before .before .args .p) (rw e at (c .before .before .before .before .before .before .before .before .before .before .before .before .before .pre)))
+
+add-t17 : tie.Need-add-t17
+add-t17 c = let e = sym (c .before .before .before .before .before .before .before .before .before .before .before .draws-cap .ensures) ∙ c .before .before .before .before .before .before .before .before .before .before .if1 .taken in omega (arith, cap-few (c .before .before .before .before .before .before .before .before .before .before .before .before .before .before .args .o) (c .before .before .before .before .before .before .before .before .before .before .before .before .before .before .args .closed) (c .before .before .before .before .before .before .before .before .before .before .before .before .before .before .args .place) (c .before .before .before .before .before .before .before .before .before .before .before .before .before .before .args .p) (rw e at (c .before .before .before .before .before .before .before .before .before .before .before .before .before .before .pre)))
 
 same-length : tie.Need-same-length
 same-length c = search needs
@@ -19,11 +24,20 @@ same-length-2 : tie.Need-same-length-2
 same-length-2 c = search needs
 
 returns : tie.Need-returns
-returns c =
-    let e = sym (c .before .before .before .before .before .before .before .before .draws-cap .ensures) ∙ c .before .before .before .before .before .before .before .if1 .taken in rw e (draws-cap _ _ _ _ _ _ _ _ _ (c .before .before .before .before .lay-empty-cap .ensures))
+returns c = let e = sym (c .before .before .before .before .before .before .before .before .before .before .before .draws-cap .ensures) ∙ c .before .before .before .before .before .before .before .before .before .before .if1 .taken in rw e (cap-drawn (c .before .before .before .before .before .before .before .before .before .before .before .before .before .before .args .o) _ _ (c .before .before .before .before .before .before .before .before .before .before .before .before .before .before .args .p) (c .before .before .before .before .before .before .before .lay-empty-cap .ensures))
 
 returns-2 : tie.Need-returns-2
-returns-2 c = let e = sym (c .before .draws-cap .ensures) ∙ c .if1 .left in rw e (draws-nothing _ _ _ _ _ _)
+returns-2 c = let e = sym (c .before .draws-cap .ensures) ∙ c .if1 .left in rw e (nothing-drawn (c .before .before .before .before .args .o) _)
 
 pub draw-alone-spec : {M : Type 1} → statement M
-draw-alone-spec = tie.close (tie.spec draws-cap-requires lay-empty-cap-requires same-length same-length-2 returns returns-2)
+draw-alone-spec =
+    tie.close
+    (tie.spec
+    draws-cap-requires
+    lay-empty-cap-requires
+    add-t16
+    add-t17
+    same-length
+    same-length-2
+    returns
+    returns-2)

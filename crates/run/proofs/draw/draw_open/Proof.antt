@@ -1,13 +1,10 @@
--- `run::draw::draw_open` meets its contract. Assumes nothing.
-use Rattle.run.proofs.Whole.{place-has, draws-open}
 use borrow.Author.Needs.{needs}
+use Rattle.run.proofs.Whole.{open-has, open-drawn}
 use Rattle.run.proofs.draw.draw_open.Statement.{statement}
 use Rattle.run.proofs.draw.draw_open.Tie as tie
 
 write-open-requires : tie.Need-write-open-requires
-write-open-requires c κs =
-    let start = c .before .before .before .before .before in
-    (start .pre .0, place-has _ _ _ _ _ _ (start .pre .1))
+write-open-requires c κs = (c .before .before .before .before .before .pre .0, open-has (c .before .before .before .before .before .args .o) _ _ (c .before .before .before .before .before .pre .1))
 
 same-length : tie.Need-same-length
 same-length c = search needs
@@ -16,9 +13,7 @@ same-length-2 : tie.Need-same-length-2
 same-length-2 c = search needs
 
 returns : tie.Need-returns
-returns c =
-    let w = c .before .before .before .before in
-    draws-open _ _ _ _ _ _ _ _ _ (w .write-open .ensures)
+returns c = open-drawn (c .before .before .before .before .before .before .before .before .before .before .before .args .o) _ _ (c .before .before .before .before .before .write-open .ensures)
 
 pub draw-open-spec : {M : Type 1} → statement M
 draw-open-spec = tie.close (tie.spec write-open-requires same-length same-length-2 returns)

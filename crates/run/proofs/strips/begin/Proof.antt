@@ -1,6 +1,5 @@
--- `run::strips::begin` meets its contract. Assumes nothing.
-use mathlib.Core.Path.{refl}
 use borrow.Author.Needs.{needs}
+use mathlib.Core.Path.{refl}
 use Rattle.run.proofs.strips.begin.Statement.{statement}
 use Rattle.run.proofs.strips.begin.Tie as tie
 
@@ -20,8 +19,9 @@ same-length-2 : tie.Need-same-length-2
 same-length-2 c = search needs
 
 returns : tie.Need-returns
-returns c =
-    record { leg = refl; puts = rw (c .before .before .before .before .before .before .before .start .ensures, c .before .before .before .before .before .before .before .before .start-cap .ensures) at (c .before .before .before .before .put-cap .ensures) }
+returns c = record { leg = refl; puts = rw (c .before .before .before .before .before .before .before .start .ensures, c .before .before .before .before .before .before .before .before .start-cap .ensures) at (c .before .before .before .before .put-cap .ensures) }
 
 pub begin-spec : {M : Type 1} → statement M
-begin-spec = tie.close (tie.spec start-cap-requires start-requires put-cap-requires same-length same-length-2 returns)
+begin-spec =
+    tie.close
+    (tie.spec start-cap-requires start-requires put-cap-requires same-length same-length-2 returns)

@@ -1,4 +1,3 @@
--- `run::strips::finish` meets its contract. Assumes nothing.
 use borrow.Author.Needs.{needs}
 use Rattle.run.proofs.strips.finish.Statement.{statement}
 use Rattle.run.proofs.strips.finish.Tie as tie
@@ -19,4 +18,5 @@ returns : tie.Need-returns
 returns c = rw (c .before .before .before .before .before .before .before .end-cap .ensures) at (c .before .before .before .before .put-cap .ensures)
 
 pub finish-spec : {M : Type 1} → statement M
-finish-spec = tie.close (tie.spec end-cap-requires put-cap-requires same-length same-length-2 returns)
+finish-spec =
+    tie.close (tie.spec end-cap-requires put-cap-requires same-length same-length-2 returns)

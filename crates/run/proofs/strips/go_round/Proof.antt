@@ -1,4 +1,3 @@
--- `run::strips::go_round` meets its contract. Assumes nothing.
 use native.Mathlib.Omega.{arith}
 use Prim.Native.Nat.{_*_, _+_, _≤_}
 use mathlib.Core.Path.{sym}
@@ -12,28 +11,16 @@ use Rattle.run.proofs.strips.go_round.Statement.{statement}
 use Rattle.run.proofs.strips.go_round.Tie as tie
 
 slice-aggregate-visit-all : tie.Need-slice-aggregate-visit-all
-slice-aggregate-visit-all c =
-    let start = c .before .before .before .before .before .before in
-    let p = start .args .p .now in
-    let h : 2 ≤ length p = omega (arith, start .pre .0 .point) in
-    sym (length-take-le 2 p h)
+slice-aggregate-visit-all c = let h : 2 ≤ length (c .before .before .before .before .before .before .args .p .now) = omega (arith, c .before .before .before .before .before .before .pre .0 .point) in sym (length-take-le 2 (c .before .before .before .before .before .before .args .p .now) h)
 
 visit-all-requires : tie.Need-visit-all-requires
-visit-all-requires c κs =
-    let start = c .before .before .before .before .before .before in
-    let p = start .args .p .now in
-    let h : 2 ≤ length p = omega (arith, start .pre .0 .point) in
-    ((omega (arith, length-take-le 2 p h), omega (arith, start .pre .0 .few)), rw (points-one p (start .args .first .0) h) (home-has _ _ _ _ _ _ _ (start .pre .1)))
+visit-all-requires c κs = ((omega (arith, length-take-le 2 (c .before .before .before .before .before .before .args .p .now) (omega (arith, c .before .before .before .before .before .before .pre .0 .point))), omega (arith, c .before .before .before .before .before .before .pre .0 .few)), rw (points-one (c .before .before .before .before .before .before .args .p .now) (c .before .before .before .before .before .before .args .first .0) (omega (arith, c .before .before .before .before .before .before .pre .0 .point))) (home-has _ _ _ _ (c .before .before .before .before .before .before .pre .1)))
 
 mul-from : tie.Need-mul-from
-mul-from c =
-    let within = c .before .before .before .before .before .before .before .before .before .before .before .pre .0 in
-    omega (arith, within .point, within .short)
+mul-from c = omega (arith, c .before .before .before .before .before .before .before .before .before .before .before .pre .0 .point, c .before .before .before .before .before .before .before .before .before .before .before .pre .0 .short)
 
 add-visit-all : tie.Need-add-visit-all
-add-visit-all c =
-    let within = c .before .before .before .before .before .before .before .before .before .before .before .before .before .pre .0 in
-    omega (arith, within .point, within .short)
+add-visit-all c = omega (arith, c .before .before .before .before .before .before .before .before .before .before .before .before .before .pre .0 .point, c .before .before .before .before .before .before .before .before .before .before .before .before .before .pre .0 .short)
 
 mul-visit-all : tie.Need-mul-visit-all
 mul-visit-all c = search needs
@@ -48,21 +35,17 @@ part-visit-all-end : tie.Need-part-visit-all-end
 part-visit-all-end c = omega (arith, c .before .before .before .before .before .before .before .before .before .before .before .before .before .pre .0 .point)
 
 endpoint-after-requires : tie.Need-endpoint-after-requires
-endpoint-after-requires c κs =
-    let within = c .before .before .before .before .before .before .before .before .before .before .before .before .before .before .pre .0 in
-    omega (arith, within .point, within .short, within .few)
+endpoint-after-requires c κs = omega (arith, c .before .before .before .before .before .before .before .before .before .before .before .before .before .before .pre .0 .point, c .before .before .before .before .before .before .before .before .before .before .before .before .before .before .pre .0 .short, c .before .before .before .before .before .before .before .before .before .before .before .before .before .before .pre .0 .few)
 
 visit-all-requires-2 : tie.Need-visit-all-requires-2
 visit-all-requires-2 c κs =
-    let home = c .before .before .before .before .before .before .before .before in
-    let start = home .before .before .before .before .before .before .before in
-    let within = start .pre .0 in
-    let p = start .args .p .now in
-    let first = start .args .first .0 in
-    let i = start .args .i in
+    let p = c .before .before .before .before .before .before .before .before .before .before .before .before .before .before .before .args .p .now in
+    let first = c .before .before .before .before .before .before .before .before .before .before .before .before .before .before .before .args .first .0 in
+    let i = c .before .before .before .before .before .before .before .before .before .before .before .before .before .before .before .args .i in
+    let within = c .before .before .before .before .before .before .before .before .before .before .before .before .before .before .before .pre .0 in
     let h : 2 ≤ length p = omega (arith, within .point) in
     let few = mid-len (2 * i) (2 * i + 2) p (within .point) in
-    let has = on-has _ _ _ _ _ _ _ (start .pre .1) _ _ _ (rw (points-one p first h) at (home .visit-all .ensures)) in
+    let has = on-has _ _ _ _ (c .before .before .before .before .before .before .before .before .before .before .before .before .before .before .before .pre .1) (rw (points-one p first h) at (c .before .before .before .before .before .before .before .before .visit-all .ensures)) in
     rw (c .endpoint-after .ensures) ((omega (arith, few), omega (arith, within .few, within .point, within .short)), rw (points-one-at p first i (within .point)) has)
 
 same-length : tie.Need-same-length
@@ -73,15 +56,12 @@ same-length-2 c = search needs
 
 returns : tie.Need-returns
 returns c =
-    let on = c .before .before .before .before .before in
-    let home = on .before .before .before .before .before .before .before .before .before in
-    let start = home .before .before .before .before .before .before .before in
-    let p = start .args .p .now in
-    let first = start .args .first .0 in
-    let h : 2 ≤ length p = omega (arith, start .pre .0 .point) in
-    let back = rw (points-one p first h) at (home .visit-all .ensures) in
-    let ahead = rw (on .before .endpoint-after .ensures, points-one-at p first (start .args .i) (start .pre .0 .point)) at (on .visit-all2 .ensures) in
-    round-puts _ _ _ _ _ _ _ (start .pre .1) _ _ _ back _ _ _ ahead
+    let p = c .before .before .before .before .before .before .before .before .before .before .before .before .before .before .before .before .before .before .before .before .before .args .p .now in
+    let first = c .before .before .before .before .before .before .before .before .before .before .before .before .before .before .before .before .before .before .before .before .before .args .first .0 in
+    let h : 2 ≤ length p = omega (arith, c .before .before .before .before .before .before .before .before .before .before .before .before .before .before .before .before .before .before .before .before .before .pre .0 .point) in
+    let back = rw (points-one p first h) at (c .before .before .before .before .before .before .before .before .before .before .before .before .before .before .visit-all .ensures) in
+    let ahead = rw (c .before .before .before .before .before .before .endpoint-after .ensures, points-one-at p first (c .before .before .before .before .before .before .before .before .before .before .before .before .before .before .before .before .before .before .before .before .before .args .i) (c .before .before .before .before .before .before .before .before .before .before .before .before .before .before .before .before .before .before .before .before .before .pre .0 .point)) at (c .before .before .before .before .before .visit-all2 .ensures) in
+    round-puts _ _ _ _ (c .before .before .before .before .before .before .before .before .before .before .before .before .before .before .before .before .before .before .before .before .before .pre .1) back ahead
 
 pub go-round-spec : {M : Type 1} → statement M
 go-round-spec =

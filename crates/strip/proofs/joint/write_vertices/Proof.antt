@@ -3,7 +3,10 @@ use Prim.Native.Nat.{_*_, _≤_}
 use mathlib.Core.Path.{_≡_}
 use native.Mathlib.Omega.{arith}
 use lib.ListN.{length}
+use Rattle.pieces.specs.Piece.{flatV, floatsOf}
+use Rattle.lists.proofs.Laws.{flat-append}
 use Rattle.lists.proofs.Parts.{behind}
+use Rattle.pieces.proofs.Pieces.{length-flatV}
 use Rattle.vertices.specs.Base.{sideVerticesOf}
 use Rattle.vertices.proofs.Laws.{length-side}
 use Rattle.strip.specs.Joint.{jointVerticesOf}
@@ -47,8 +50,8 @@ returns c =
     let j = start .args .j in
     let count = second .before .before .positive-count in
     let room : 5 * count .result ≤ length (start .args .v .now) = omega (arith, count .ensures, start .pre) in
-    let many : length (sideVerticesOf j (j .positive)) ≡ 5 * count .result = rw (count .ensures) (length-side j (j .positive)) in
-    behind _ _ _ _ _ (5 * count .result) many room (first .add-join-base-vertices .ensures) (second .add-join-base-vertices2 .ensures)
+    let many : length (flatV (sideVerticesOf j (j .positive))) ≡ 5 * count .result = rw (length-flatV, length-side j (j .positive), count .ensures) in
+    rw (flat-append floatsOf (sideVerticesOf j (j .positive)) (sideVerticesOf j (j .negative))) (behind _ _ _ _ _ (5 * count .result) many room (first .add-join-base-vertices .ensures) (second .add-join-base-vertices2 .ensures))
 
 pub write-vertices-spec : {M : Type 1} → statement M
 write-vertices-spec =

@@ -4,7 +4,8 @@ use native.Mathlib.Omega.{arith}
 use lib.ListN.{length}
 use Rattle.lists.proofs.Laws.{over-none}
 use Rattle.vertices.specs.Vertex.{triangleOf}
-use Rattle.strip.specs.Triangle.{flatT}
+use Rattle.lists.specs.Over.{flat}
+use Rattle.pieces.specs.Piece.{flatT}
 use Rattle.strip.proofs.Triangles.{tri-some, tri-none}
 use borrow.Author.Needs.{needs}
 use Rattle.strip.proofs.triangle.write_triangle.Statement.{statement}
@@ -22,13 +23,13 @@ same-length : tie.Need-same-length
 same-length c = search needs
 
 returns : tie.Need-returns
-unfolding flatT triangleOf
+unfolding flat triangleOf
 returns c =
     let whole = tri-some _ _ _ (sym (c .before .before .before .before .before .different .ensures) ∙ c .before .before .before .before .if1 .taken) in
     rw whole (refl, c .before .before .put-triangle .ensures)
 
 returns-2 : tie.Need-returns-2
-unfolding flatT
+unfolding flat
 returns-2 c =
     let none = tri-none _ _ _ (sym (c .before .different .ensures) ∙ c .if1 .left) in
     rw none (refl, sym (over-none _))

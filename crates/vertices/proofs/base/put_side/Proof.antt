@@ -1,12 +1,12 @@
 -- `vertices::base::put_side` meets its contract. Assumes nothing.
-use mathlib.Core.Path.{ap}
+use mathlib.Core.Path.{refl, ap}
 use Prim.Native.Nat.{_≤_}
 use native.Mathlib.Omega.{arith}
 use lib.ListN.{length, length-take, length-drop}
 use Rattle.endpoint.specs.Endpoint.{sideCountOf}
+use Rattle.lists.specs.Over.{flat}
 use Rattle.lists.proofs.Parts.{behind}
 use Rattle.vertices.specs.Base.{sideVerticesOf}
-use Rattle.vertices.proofs.Laws.{length-base}
 use borrow.Author.Needs.{needs}
 use Rattle.vertices.proofs.base.put_side.Statement.{statement}
 use Rattle.vertices.proofs.base.put_side.Tie as tie
@@ -39,20 +39,20 @@ same-length : tie.Need-same-length
 same-length c = search needs
 
 returns : tie.Need-returns
-unfolding sideVerticesOf
+unfolding sideVerticesOf flat
 returns c = rw (c .before .before .before .before .before .points .given .1) (c .before .before .put-base-vertex .ensures)
 
 same-length-2 : tie.Need-same-length-2
 same-length-2 c = search needs
 
 returns-2 : tie.Need-returns-2
-unfolding sideVerticesOf
+unfolding sideVerticesOf flat
 returns-2 c =
     let w = c .before .before .before .before .before .before in
     let told = w .before .before .before .points2 .given .1 in
     let start = w .before .before .before .before .before .before in
     let room : 5 ≤ length (start .args .v .now) = omega (arith, ap sideCountOf told, start .pre) in
-    rw told (behind _ _ _ _ _ 5 (length-base _ _ _) room (w .put-base-vertex2 .ensures) (c .before .before .put-base-vertex3 .ensures))
+    rw told (behind _ _ _ _ _ 5 refl room (w .put-base-vertex2 .ensures) (c .before .before .put-base-vertex3 .ensures))
 
 pub put-side-spec : {M : Type 1} → statement M
 put-side-spec =

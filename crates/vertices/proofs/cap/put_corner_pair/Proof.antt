@@ -1,9 +1,10 @@
 -- `vertices::cap::put_corner_pair` meets its contract. Assumes nothing.
+use mathlib.Core.Path.{refl}
 use native.Mathlib.Nat.{le-trans}
 use lib.Dec.{lit≤}
+use Rattle.lists.specs.Over.{flat}
 use Rattle.lists.proofs.Parts.{behind}
 use Rattle.vertices.specs.Cap.{capPairOf}
-use Rattle.vertices.proofs.Laws.{length-corner}
 use borrow.Author.Needs.{needs}
 use Rattle.vertices.proofs.cap.put_corner_pair.Statement.{statement}
 use Rattle.vertices.proofs.cap.put_corner_pair.Tie as tie
@@ -27,11 +28,11 @@ same-length : tie.Need-same-length
 same-length c = search needs
 
 returns : tie.Need-returns
-unfolding capPairOf
+unfolding capPairOf flat
 returns c =
     let c2 = c .before .before in
     let c1 = c2 .before .before .before .before in
-    behind _ _ _ _ _ 5 (length-corner _ _ _ _ _) (le-trans (lit≤ tt) (c1 .before .before .before .pre)) (c1 .put-corner .ensures) (c2 .put-corner2 .ensures)
+    behind _ _ _ _ _ 5 refl (le-trans (lit≤ tt) (c1 .before .before .before .pre)) (c1 .put-corner .ensures) (c2 .put-corner2 .ensures)
 
 pub put-corner-pair-spec : {M : Type 1} → statement M
 put-corner-pair-spec =

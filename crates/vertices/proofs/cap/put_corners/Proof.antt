@@ -1,9 +1,10 @@
 -- `vertices::cap::put_corners` meets its contract. Assumes nothing.
+use mathlib.Core.Path.{refl}
 use native.Mathlib.Nat.{le-trans}
 use lib.Dec.{lit≤}
+use Rattle.lists.specs.Over.{flat}
 use Rattle.lists.proofs.Parts.{behind}
-use Rattle.vertices.specs.Cap.{capVerticesOf}
-use Rattle.vertices.proofs.Laws.{length-pair}
+use Rattle.vertices.specs.Cap.{capPairOf, capVerticesOf}
 use borrow.Author.Needs.{needs}
 use Rattle.vertices.proofs.cap.put_corners.Statement.{statement}
 use Rattle.vertices.proofs.cap.put_corners.Tie as tie
@@ -27,11 +28,11 @@ same-length : tie.Need-same-length
 same-length c = search needs
 
 returns : tie.Need-returns
-unfolding capVerticesOf
+unfolding capVerticesOf capPairOf flat
 returns c =
     let c2 = c .before .before in
     let c1 = c2 .before .before .before .before in
-    behind _ _ _ _ _ 10 (length-pair _ _ _ _) (le-trans (lit≤ tt) (c1 .before .before .before .pre)) (c1 .put-corner-pair .ensures) (c2 .put-corner-pair2 .ensures)
+    behind _ _ _ _ _ 10 refl (le-trans (lit≤ tt) (c1 .before .before .before .pre)) (c1 .put-corner-pair .ensures) (c2 .put-corner-pair2 .ensures)
 
 pub put-corners-spec : {M : Type 1} → statement M
 put-corners-spec =

@@ -1,10 +1,11 @@
 -- `vertices::cap::tessellate_empty_square_cap` meets its contract. Assumes nothing.
+use mathlib.Core.Path.{refl}
 use native.Mathlib.Nat.{le-trans}
 use native.Mathlib.Omega.{arith}
 use lib.Dec.{lit≤}
+use Rattle.lists.specs.Over.{flat}
 use Rattle.lists.proofs.Parts.{behind}
 use Rattle.vertices.specs.Cap.{capTrianglesOf}
-use Rattle.vertices.proofs.Laws.{length-triangle}
 use borrow.Author.Needs.{needs}
 use Rattle.vertices.proofs.cap.tessellate_empty_square_cap.Statement.{statement}
 use Rattle.vertices.proofs.cap.tessellate_empty_square_cap.Tie as tie
@@ -49,7 +50,7 @@ same-length-2 : tie.Need-same-length-2
 same-length-2 c = search needs
 
 returns : tie.Need-returns
-unfolding capTrianglesOf
+unfolding capTrianglesOf flat
 returns c =
     let t2 = c .before .before in
     let t1 = t2 .before .before .before .before .before in
@@ -58,7 +59,7 @@ returns c =
     let start = corners .before .before .before .before in
     let one = rw (t1 .before .vertex-after2 .ensures, d .vertex-after .ensures) at (t1 .put-triangle .ensures) in
     let two = rw (t2 .before .vertex-after3 .ensures, d .vertex-after .ensures) at (t2 .put-triangle2 .ensures) in
-    (corners .put-corners .ensures, behind _ _ _ _ _ 3 (length-triangle _ _ _) (le-trans (lit≤ tt) (start .pre .1)) one two)
+    (corners .put-corners .ensures, behind _ _ _ _ _ 3 refl (le-trans (lit≤ tt) (start .pre .1)) one two)
 
 pub tessellate-empty-square-cap-spec : {M : Type 1} → statement M
 tessellate-empty-square-cap-spec =

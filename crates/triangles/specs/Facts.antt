@@ -1,18 +1,11 @@
--- What demand 3 says of a run's triangles. That it holds is in proofs/Facts. Assumes nothing.
-use Prim.Native.Nat.{ℕ, _+_, _-_, _≤_, _<_}
+-- What demand 3 says of a run's triangles. That it holds is in the crates above. Assumes nothing.
+use Prim.Native.Nat.{ℕ, _+_, _≤_, _<_}
 use mathlib.Core.Path.{_≡_}
 use mathlib.Core.Bool.{cond}
 use mathlib.Core.List.{List, [], _∷_}
 use mathlib.Core.Logic.{_≢_}
 use lib.Dec.{eqb}
-use Rattle.endpoint.specs.Endpoint.{sideCountOf}
-use Rattle.endpoint.specs.declared.EndpointData.{EndpointData}
-use Rattle.strip.specs.Triangle.{Tri}
-
--- "With d pair sides"
-unfoldable pub pairSides : List EndpointData → ℕ
-pairSides [] = 0
-pairSides (j ∷ js) = (sideCountOf (j .positive) - 1) + (sideCountOf (j .negative) - 1) + pairSides js
+use Rattle.triangles.specs.Tri.{Tri}
 
 -- each triangle names three different vertices, each numbered from lo to below hi
 abbrev pub In : ℕ → ℕ → ℕ → Type 0

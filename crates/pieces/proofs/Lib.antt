@@ -1,0 +1,2 @@
+-- Laws for whoever writes pieces, or counts them.
+pub mod Pieces

@@ -1,0 +1,1 @@
+// Triangles and what demand 3 says of them. No code.
