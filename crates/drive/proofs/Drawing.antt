@@ -11,7 +11,7 @@ use Rattle.endpoint.specs.declared.Endpoint.{Endpoint}
 use Rattle.pieces.specs.Piece.{Piece, joined, behind, nextVertex, anew, Lists, lent, Fits, Puts}
 use Rattle.pieces.specs.Limits.{numberLimit}
 use Rattle.pieces.specs.declared.Place.{Place}
-use Rattle.pieces.proofs.Pieces.{puts-none, puts-both, fits-front, fits-back, reached, parts-inside, parts-fit, parts-put}
+use Rattle.pieces.proofs.Pieces.{puts-none, puts-both, fits-front, fits-back, reached, parts-fit, parts-put}
 use Rattle.path.specs.declared.options.Stroke.{Stroke}
 use Rattle.path.specs.Runs.{Run, runsFrom}
 use Rattle.path.specs.Verbs.{names}
@@ -60,9 +60,6 @@ module _ (o : Stroke) (g : Cursor) (verb : ℕ) (ps : List Endpoint) where
       (h : Fits write k (meshPiece o k (endedOf g verb ps)) (lent v t)) where
     run-fits : Fits write k (run k) (lent v t)
     run-fits = rw (one-is k n) at h
-
-    pub part-inside : (at ≤ length v) × (on ≤ length t)
-    part-inside = rw (ea, eo) (parts-inside k (run k) v t write run-fits)
 
     pub part-fits : Fits write (anew k) (shapePiece o (currentOf g verb ps .closed) (anew k) (drawnOf o (currentOf g verb ps))) (lent (midOf at (length v - at) v) (midOf on (length t - on) t))
     part-fits = rw (ea, eo, run-anew k) (parts-fit k (run k) v t write run-fits)

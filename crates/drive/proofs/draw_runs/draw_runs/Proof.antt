@@ -26,21 +26,34 @@ shared-slice-read-verb : tie.Need-shared-slice-read-verb Inv-loop μ-loop
 shared-slice-read-verb c = search needs
 
 draw-verb-requires : tie.Need-draw-verb-requires Inv-loop μ-loop
-draw-verb-requires c κs = (going-inside (c .before .before .before .before .loop .inv .0) (c .before .before .before .before .before .before .before .before .before .before .args .coords .now) (c .before .before .before .before .before .before .before .before .before .before .pre .0), going-fits (c .before .before .before .before .loop .inv .0) (c .before .before .before .loop-test .taken) (c .before .before .before .before .before .before .before .before .before .before .pre .1))
+draw-verb-requires c κs =
+    let at-loop-test = c .before .before .before in
+    let at-loop = at-loop-test .before in
+    let entry = at-loop .before .before .before .before .before .before in
+    (going-inside (at-loop .loop .inv .0) (entry .args .coords .now) (entry .pre .0), going-fits (at-loop .loop .inv .0) (at-loop-test .loop-test .taken) (entry .pre .1))
 
 moved-requires : tie.Need-moved-requires Inv-loop μ-loop
 moved-requires c κs =
-    let a = going-inside (c .before .before .before .before .before .before .before .before .before .loop .inv .0) (c .before .before .before .before .before .before .before .before .before .before .before .before .before .before .before .args .coords .now) (c .before .before .before .before .before .before .before .before .before .before .before .before .before .before .before .pre .0) in
+    let at-loop = c .before .before .before .before .before .before .before .before .before in
+    let entry = at-loop .before .before .before .before .before .before in
+    let a = going-inside (at-loop .loop .inv .0) (entry .args .coords .now) (entry .pre .0) in
     omega (arith, a .end, a .few)
 
 add-i : tie.Need-add-i Inv-loop μ-loop
-add-i c = omega (arith, c .before .before .before .before .before .before .before .before .before .loop-test .taken, c .before .before .before .before .before .before .before .before .before .before .before .before .before .before .before .before .good .1 .1 .1 .0)
+add-i c =
+    let at-loop-test = c .before .before .before .before .before .before .before .before .before in
+    let entry = at-loop-test .before .before .before .before .before .before .before in
+    omega (arith, at-loop-test .loop-test .taken, entry .good .1 .1 .1 .0)
 
 loop-less : tie.Need-loop-less Inv-loop μ-loop
 loop-less c = omega (arith, c .before .before .before .before .before .before .before .before .before .loop-test .taken)
 
 loop-again : tie.Need-loop-again Inv-loop μ-loop
-loop-again c = (rw (c .moved .ensures) (going-turn (c .before .before .before .before .before .before .before .before .before .before .loop .inv .0) (c .before .before .before .before .before .before .before .before .before .loop-test .taken) (c .before .before .before .before .before .draw-verb .ensures)), search (needs, c .before .before .before .before .before .before .before .before .before .before .loop .inv .1), search (needs, c .before .before .before .before .before .before .before .before .before .before .loop .inv .2))
+loop-again c =
+    let at-draw-verb = c .before .before .before .before .before in
+    let at-loop-test = at-draw-verb .before .before .before .before in
+    let at-loop = at-loop-test .before in
+    (rw (c .moved .ensures) (going-turn (at-loop .loop .inv .0) (at-loop-test .loop-test .taken) (at-draw-verb .draw-verb .ensures)), search (needs, at-loop .loop .inv .1), search (needs, at-loop .loop .inv .2))
 
 same-length : tie.Need-same-length Inv-loop μ-loop
 same-length c = c .before .loop .inv .1

@@ -22,13 +22,20 @@ part-write-close-end : tie.Need-part-write-close-end
 part-write-close-end c = search needs
 
 write-close-requires : tie.Need-write-close-requires
-write-close-requires c κs = (close-room _ _ (c .before .before .before .before .before .pre (c .before .before .before .if1 .taken)), c .before .before .before .before .before .pre (c .before .before .before .if1 .taken) .sound)
+write-close-requires c κs =
+    let at-if1 = c .before .before .before in
+    let entry = at-if1 .before .before in
+    (close-room _ _ (entry .pre (at-if1 .if1 .taken)), entry .pre (at-if1 .if1 .taken) .sound)
 
 same-length : tie.Need-same-length
 same-length c = search needs
 
 returns : tie.Need-returns
-returns c = λ w. rounded _ _ (c .before .before .before .before .before .before .before .before .pre (c .before .before .before .before .before .before .if1 .taken)) _ (c .before .before .write-close .ensures .1)
+returns c =
+    let at-write-close = c .before .before in
+    let at-if1 = at-write-close .before .before .before .before in
+    let entry = at-if1 .before .before in
+    λ w. rounded _ _ (entry .pre (at-if1 .if1 .taken)) _ (at-write-close .write-close .ensures .1)
 
 returns-2 : tie.Need-returns-2
 returns-2 c = λ w. absurd (true≢false (sym w ∙ c .if1 .left))

@@ -9,13 +9,28 @@ draws-cap-requires : tie.Need-draws-cap-requires
 draws-cap-requires c κs = search needs
 
 lay-empty-cap-requires : tie.Need-lay-empty-cap-requires
-lay-empty-cap-requires c κs = let e = sym (c .before .before .before .draws-cap .ensures) ∙ c .before .before .if1 .taken in cap-fits (c .before .before .before .before .before .before .args .o) _ _ (c .before .before .before .before .before .before .args .p) (rw e at (c .before .before .before .before .before .before .pre))
+lay-empty-cap-requires c κs =
+    let at-if1 = c .before .before in
+    let at-draws-cap = at-if1 .before in
+    let entry = at-draws-cap .before .before .before in
+    let e = sym (at-draws-cap .draws-cap .ensures) ∙ at-if1 .if1 .taken in
+    cap-fits (entry .args .o) _ _ (entry .args .p) (rw e at (entry .pre))
 
 add-t16 : tie.Need-add-t16
-add-t16 c = let e = sym (c .before .before .before .before .before .before .before .before .before .before .draws-cap .ensures) ∙ c .before .before .before .before .before .before .before .before .before .if1 .taken in omega (arith, cap-few (c .before .before .before .before .before .before .before .before .before .before .before .before .before .args .o) (c .before .before .before .before .before .before .before .before .before .before .before .before .before .args .closed) (c .before .before .before .before .before .before .before .before .before .before .before .before .before .args .place) (c .before .before .before .before .before .before .before .before .before .before .before .before .before .args .p) (rw e at (c .before .before .before .before .before .before .before .before .before .before .before .before .before .pre)))
+add-t16 c =
+    let at-if1 = c .before .before .before .before .before .before .before .before .before in
+    let at-draws-cap = at-if1 .before in
+    let entry = at-draws-cap .before .before .before in
+    let e = sym (at-draws-cap .draws-cap .ensures) ∙ at-if1 .if1 .taken in
+    omega (arith, cap-few (entry .args .o) (entry .args .closed) (entry .args .place) (entry .args .p) (rw e at (entry .pre)))
 
 add-t17 : tie.Need-add-t17
-add-t17 c = let e = sym (c .before .before .before .before .before .before .before .before .before .before .before .draws-cap .ensures) ∙ c .before .before .before .before .before .before .before .before .before .before .if1 .taken in omega (arith, cap-few (c .before .before .before .before .before .before .before .before .before .before .before .before .before .before .args .o) (c .before .before .before .before .before .before .before .before .before .before .before .before .before .before .args .closed) (c .before .before .before .before .before .before .before .before .before .before .before .before .before .before .args .place) (c .before .before .before .before .before .before .before .before .before .before .before .before .before .before .args .p) (rw e at (c .before .before .before .before .before .before .before .before .before .before .before .before .before .before .pre)))
+add-t17 c =
+    let at-if1 = c .before .before .before .before .before .before .before .before .before .before in
+    let at-draws-cap = at-if1 .before in
+    let entry = at-draws-cap .before .before .before in
+    let e = sym (at-draws-cap .draws-cap .ensures) ∙ at-if1 .if1 .taken in
+    omega (arith, cap-few (entry .args .o) (entry .args .closed) (entry .args .place) (entry .args .p) (rw e at (entry .pre)))
 
 same-length : tie.Need-same-length
 same-length c = search needs
@@ -24,7 +39,13 @@ same-length-2 : tie.Need-same-length-2
 same-length-2 c = search needs
 
 returns : tie.Need-returns
-returns c = let e = sym (c .before .before .before .before .before .before .before .before .before .before .before .draws-cap .ensures) ∙ c .before .before .before .before .before .before .before .before .before .before .if1 .taken in rw e (cap-drawn (c .before .before .before .before .before .before .before .before .before .before .before .before .before .before .args .o) _ _ (c .before .before .before .before .before .before .before .before .before .before .before .before .before .before .args .p) (c .before .before .before .before .before .before .before .lay-empty-cap .ensures))
+returns c =
+    let at-lay-empty-cap = c .before .before .before .before .before .before .before in
+    let at-if1 = at-lay-empty-cap .before .before .before in
+    let at-draws-cap = at-if1 .before in
+    let entry = at-draws-cap .before .before .before in
+    let e = sym (at-draws-cap .draws-cap .ensures) ∙ at-if1 .if1 .taken in
+    rw e (cap-drawn (entry .args .o) _ _ (entry .args .p) (at-lay-empty-cap .lay-empty-cap .ensures))
 
 returns-2 : tie.Need-returns-2
 returns-2 c = let e = sym (c .before .draws-cap .ensures) ∙ c .if1 .left in rw e (nothing-drawn (c .before .before .before .before .args .o) _)

@@ -5,16 +5,27 @@ use Rattle.run.proofs.draw.draw_closed.Statement.{statement}
 use Rattle.run.proofs.draw.draw_closed.Tie as tie
 
 write-round-requires : tie.Need-write-round-requires
-write-round-requires c κs = (c .before .before .before .before .before .pre .0, closed-has (c .before .before .before .before .before .args .o) _ _ (c .before .before .before .before .before .pre .1))
+write-round-requires c κs =
+    let entry = c .before .before .before .before .before in
+    (entry .pre .0, closed-has (entry .args .o) _ _ (entry .pre .1))
 
 close-round-requires : tie.Need-close-round-requires
-close-round-requires c κs = rounds (c .before .before .before .before .before .before .before .before .before .before .before .args .o) (c .before .before .before .before .before .before .before .before .before .before .before .pre .1) (c .before .before .before .before .before .write-round .ensures)
+close-round-requires c κs =
+    let at-write-round = c .before .before .before .before .before in
+    let entry = at-write-round .before .before .before .before .before .before in
+    rounds (entry .args .o) (entry .pre .1) (at-write-round .write-round .ensures)
 
 sub-t19 : tie.Need-sub-t19
-sub-t19 c = omega (arith, end-is (c .before .before .before .before .before .before .before .before .before .before .before .before .before .before .before .before .before .before .args .o) (c .before .before .before .before .before .before .before .before .before .before .before .before .before .before .before .before .before .before .pre .1) (c .before .before .before .before .before .before .before .before .before .before .before .before .write-round .ensures) (two-joints (c .before .before .before .before .before .before .before .before .before .before .before .before .before .before .before .before .before .before .args .o) _ _ _))
+sub-t19 c =
+    let at-write-round = c .before .before .before .before .before .before .before .before .before .before .before .before in
+    let entry = at-write-round .before .before .before .before .before .before in
+    omega (arith, end-is (entry .args .o) (entry .pre .1) (at-write-round .write-round .ensures) (two-joints (entry .args .o) _ _ _))
 
 add-t20 : tie.Need-add-t20
-add-t20 c = omega (arith, end-is (c .before .before .before .before .before .before .before .before .before .before .before .before .before .before .before .before .before .before .before .args .o) (c .before .before .before .before .before .before .before .before .before .before .before .before .before .before .before .before .before .before .before .pre .1) (c .before .before .before .before .before .before .before .before .before .before .before .before .before .write-round .ensures) (two-joints (c .before .before .before .before .before .before .before .before .before .before .before .before .before .before .before .before .before .before .before .args .o) _ _ _))
+add-t20 c =
+    let at-write-round = c .before .before .before .before .before .before .before .before .before .before .before .before .before in
+    let entry = at-write-round .before .before .before .before .before .before in
+    omega (arith, end-is (entry .args .o) (entry .pre .1) (at-write-round .write-round .ensures) (two-joints (entry .args .o) _ _ _))
 
 same-length : tie.Need-same-length
 same-length c = search needs
@@ -23,7 +34,11 @@ same-length-2 : tie.Need-same-length-2
 same-length-2 c = search needs
 
 returns : tie.Need-returns
-returns c = closed-drawn (c .before .before .before .before .before .before .before .before .before .before .before .before .before .before .before .before .before .before .before .args .o) (c .before .before .before .before .before .before .before .before .before .before .before .before .before .before .before .before .before .before .before .pre .1) (c .before .before .before .before .before .before .before .before .before .before .before .before .before .write-round .ensures) (two-joints (c .before .before .before .before .before .before .before .before .before .before .before .before .before .before .before .before .before .before .before .args .o) _ _ _) _ (c .before .before .before .before .before .before .before .close-round .ensures)
+returns c =
+    let at-close-round = c .before .before .before .before .before .before .before in
+    let at-write-round = at-close-round .before .before .before .before .before .before in
+    let entry = at-write-round .before .before .before .before .before .before in
+    closed-drawn (entry .args .o) (entry .pre .1) (at-write-round .write-round .ensures) (two-joints (entry .args .o) _ _ _) _ (at-close-round .close-round .ensures)
 
 pub draw-closed-spec : {M : Type 1} → statement M
 draw-closed-spec =

@@ -4,7 +4,9 @@ use Rattle.run.proofs.draw.draw_open.Statement.{statement}
 use Rattle.run.proofs.draw.draw_open.Tie as tie
 
 write-open-requires : tie.Need-write-open-requires
-write-open-requires c κs = (c .before .before .before .before .before .pre .0, open-has (c .before .before .before .before .before .args .o) _ _ (c .before .before .before .before .before .pre .1))
+write-open-requires c κs =
+    let entry = c .before .before .before .before .before in
+    (entry .pre .0, open-has (entry .args .o) _ _ (entry .pre .1))
 
 same-length : tie.Need-same-length
 same-length c = search needs
@@ -13,7 +15,10 @@ same-length-2 : tie.Need-same-length-2
 same-length-2 c = search needs
 
 returns : tie.Need-returns
-returns c = open-drawn (c .before .before .before .before .before .before .before .before .before .before .before .args .o) _ _ (c .before .before .before .before .before .write-open .ensures)
+returns c =
+    let at-write-open = c .before .before .before .before .before in
+    let entry = at-write-open .before .before .before .before .before .before in
+    open-drawn (entry .args .o) _ _ (at-write-open .write-open .ensures)
 
 pub draw-open-spec : {M : Type 1} → statement M
 draw-open-spec = tie.close (tie.spec write-open-requires same-length same-length-2 returns)

@@ -8,42 +8,67 @@ use Rattle.run.proofs.draw.lay_empty_cap.Statement.{statement}
 use Rattle.run.proofs.draw.lay_empty_cap.Tie as tie
 
 mul-at : tie.Need-mul-at
-mul-at c = omega (arith, cap-few (c .before .before .before .before .args .o) false (c .before .before .before .before .args .place) (c .before .before .before .before .args .p) (c .before .before .before .before .pre))
+mul-at c =
+    let entry = c .before .before .before .before in
+    omega (arith, cap-few (entry .args .o) false (entry .args .place) (entry .args .p) (entry .pre))
 
 mul-to : tie.Need-mul-to
-mul-to c = omega (arith, cap-few (c .before .before .before .before .before .args .o) false (c .before .before .before .before .before .args .place) (c .before .before .before .before .before .args .p) (c .before .before .before .before .before .pre))
+mul-to c =
+    let entry = c .before .before .before .before .before in
+    omega (arith, cap-few (entry .args .o) false (entry .args .place) (entry .args .p) (entry .pre))
 
 next-vertex-requires : tie.Need-next-vertex-requires
-next-vertex-requires c κs = omega (arith, cap-few (c .before .before .before .before .before .args .o) false (c .before .before .before .before .before .args .place) (c .before .before .before .before .before .args .p) (c .before .before .before .before .before .pre))
+next-vertex-requires c κs =
+    let entry = c .before .before .before .before .before in
+    omega (arith, cap-few (entry .args .o) false (entry .args .place) (entry .args .p) (entry .pre))
 
 mul-tessellate-empty-square-cap : tie.Need-mul-tessellate-empty-square-cap
-mul-tessellate-empty-square-cap c = omega (arith, cap-few (c .before .before .before .before .before .before .args .o) false (c .before .before .before .before .before .before .args .place) (c .before .before .before .before .before .before .args .p) (c .before .before .before .before .before .before .pre))
+mul-tessellate-empty-square-cap c =
+    let entry = c .before .before .before .before .before .before in
+    omega (arith, cap-few (entry .args .o) false (entry .args .place) (entry .args .p) (entry .pre))
 
 sub-tessellate-empty-square-cap : tie.Need-sub-tessellate-empty-square-cap
-sub-tessellate-empty-square-cap c = omega (arith, cap-room (c .before .before .before .before .before .before .args .o) false (c .before .before .before .before .before .before .args .place) (c .before .before .before .before .before .before .args .p) _ _ (rw (c .before .before .before .if1 .taken) at (c .before .before .before .before .before .before .pre)))
+sub-tessellate-empty-square-cap c =
+    let at-if1 = c .before .before .before in
+    let entry = at-if1 .before .before .before in
+    omega (arith, cap-room (entry .args .o) false (entry .args .place) (entry .args .p) _ _ (rw (at-if1 .if1 .taken) at (entry .pre)))
 
 part-tessellate-empty-square-cap-start : tie.Need-part-tessellate-empty-square-cap-start
-part-tessellate-empty-square-cap-start c = omega (arith, cap-room (c .before .before .before .before .before .before .args .o) false (c .before .before .before .before .before .before .args .place) (c .before .before .before .before .before .before .args .p) _ _ (rw (c .before .before .before .if1 .taken) at (c .before .before .before .before .before .before .pre)))
+part-tessellate-empty-square-cap-start c =
+    let at-if1 = c .before .before .before in
+    let entry = at-if1 .before .before .before in
+    omega (arith, cap-room (entry .args .o) false (entry .args .place) (entry .args .p) _ _ (rw (at-if1 .if1 .taken) at (entry .pre)))
 
 part-tessellate-empty-square-cap-end : tie.Need-part-tessellate-empty-square-cap-end
 part-tessellate-empty-square-cap-end c = search needs
 
 mul-tessellate-empty-square-cap-2 : tie.Need-mul-tessellate-empty-square-cap-2
-mul-tessellate-empty-square-cap-2 c = omega (arith, cap-few (c .before .before .before .before .before .before .before .args .o) false (c .before .before .before .before .before .before .before .args .place) (c .before .before .before .before .before .before .before .args .p) (c .before .before .before .before .before .before .before .pre))
+mul-tessellate-empty-square-cap-2 c =
+    let entry = c .before .before .before .before .before .before .before in
+    omega (arith, cap-few (entry .args .o) false (entry .args .place) (entry .args .p) (entry .pre))
 
 sub-tessellate-empty-square-cap-2 : tie.Need-sub-tessellate-empty-square-cap-2
-sub-tessellate-empty-square-cap-2 c = omega (arith, cap-room (c .before .before .before .before .before .before .before .args .o) false (c .before .before .before .before .before .before .before .args .place) (c .before .before .before .before .before .before .before .args .p) _ _ (rw (c .before .before .before .before .if1 .taken) at (c .before .before .before .before .before .before .before .pre)))
+sub-tessellate-empty-square-cap-2 c =
+    let at-if1 = c .before .before .before .before in
+    let entry = at-if1 .before .before .before in
+    omega (arith, cap-room (entry .args .o) false (entry .args .place) (entry .args .p) _ _ (rw (at-if1 .if1 .taken) at (entry .pre)))
 
 part-tessellate-empty-square-cap-start-2 : tie.Need-part-tessellate-empty-square-cap-start-2
-part-tessellate-empty-square-cap-start-2 c = omega (arith, cap-room (c .before .before .before .before .before .before .before .args .o) false (c .before .before .before .before .before .before .before .args .place) (c .before .before .before .before .before .before .before .args .p) _ _ (rw (c .before .before .before .before .if1 .taken) at (c .before .before .before .before .before .before .before .pre)))
+part-tessellate-empty-square-cap-start-2 c =
+    let at-if1 = c .before .before .before .before in
+    let entry = at-if1 .before .before .before in
+    omega (arith, cap-room (entry .args .o) false (entry .args .place) (entry .args .p) _ _ (rw (at-if1 .if1 .taken) at (entry .pre)))
 
 part-tessellate-empty-square-cap-end-2 : tie.Need-part-tessellate-empty-square-cap-end-2
 part-tessellate-empty-square-cap-end-2 c = search needs
 
 tessellate-empty-square-cap-requires : tie.Need-tessellate-empty-square-cap-requires
 tessellate-empty-square-cap-requires c κs =
-    let r = cap-room (c .before .before .before .before .before .before .before .before .args .o) false (c .before .before .before .before .before .before .before .before .args .place) (c .before .before .before .before .before .before .before .before .args .p) _ _ (rw (c .before .before .before .before .before .if1 .taken) at (c .before .before .before .before .before .before .before .before .pre)) in
-    rw (c .before .before .next-vertex .ensures) (simp (length-take, length-drop) (omega (arith, r)), simp (length-take, length-drop) (omega (arith, r)), omega (arith, cap-few (c .before .before .before .before .before .before .before .before .args .o) false (c .before .before .before .before .before .before .before .before .args .place) (c .before .before .before .before .before .before .before .before .args .p) (c .before .before .before .before .before .before .before .before .pre)))
+    let at-next-vertex = c .before .before in
+    let at-if1 = at-next-vertex .before .before .before in
+    let entry = at-if1 .before .before .before in
+    let r = cap-room (entry .args .o) false (entry .args .place) (entry .args .p) _ _ (rw (at-if1 .if1 .taken) at (entry .pre)) in
+    rw (at-next-vertex .next-vertex .ensures) (simp (length-take, length-drop) (omega (arith, r)), simp (length-take, length-drop) (omega (arith, r)), omega (arith, cap-few (entry .args .o) false (entry .args .place) (entry .args .p) (entry .pre)))
 
 same-length : tie.Need-same-length
 same-length c = search needs
@@ -52,7 +77,12 @@ same-length-2 : tie.Need-same-length-2
 same-length-2 c = search needs
 
 returns : tie.Need-returns
-returns c = λ w. cap-laid (c .before .before .before .before .before .before .before .before .before .before .before .before .before .args .o) false (c .before .before .before .before .before .before .before .before .before .before .before .before .before .args .place) (c .before .before .before .before .before .before .before .before .before .before .before .before .before .args .p) _ _ _ _ (rw (c .before .before .before .before .before .before .before .before .before .before .if1 .taken) at (c .before .before .before .before .before .before .before .before .before .before .before .before .before .pre)) (rw (c .before .before .before .before .before .before .before .next-vertex .ensures) at (c .before .before .before .before .tessellate-empty-square-cap .ensures))
+returns c =
+    let at-tessellate-empty-square-cap = c .before .before .before .before in
+    let at-next-vertex = at-tessellate-empty-square-cap .before .before .before in
+    let at-if1 = at-next-vertex .before .before .before in
+    let entry = at-if1 .before .before .before in
+    λ w. cap-laid (entry .args .o) false (entry .args .place) (entry .args .p) _ _ _ _ (rw (at-if1 .if1 .taken) at (entry .pre)) (rw (at-next-vertex .next-vertex .ensures) at (at-tessellate-empty-square-cap .tessellate-empty-square-cap .ensures))
 
 returns-2 : tie.Need-returns-2
 returns-2 c = λ w. absurd (true≢false (sym w ∙ c .if1 .left))

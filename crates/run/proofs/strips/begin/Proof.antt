@@ -10,7 +10,11 @@ start-requires : tie.Need-start-requires
 start-requires c κs = search needs
 
 put-cap-requires : tie.Need-put-cap-requires
-put-cap-requires c κs = rw (c .before .before .start .ensures, c .before .before .before .start-cap .ensures) (c .before .before .before .before .before .before .pre)
+put-cap-requires c κs =
+    let at-start = c .before .before in
+    let at-start-cap = at-start .before in
+    let entry = at-start-cap .before .before .before in
+    rw (at-start .start .ensures, at-start-cap .start-cap .ensures) (entry .pre)
 
 same-length : tie.Need-same-length
 same-length c = search needs
@@ -19,7 +23,11 @@ same-length-2 : tie.Need-same-length-2
 same-length-2 c = search needs
 
 returns : tie.Need-returns
-returns c = record { leg = refl; puts = rw (c .before .before .before .before .before .before .before .start .ensures, c .before .before .before .before .before .before .before .before .start-cap .ensures) at (c .before .before .before .before .put-cap .ensures) }
+returns c =
+    let at-put-cap = c .before .before .before .before in
+    let at-start = at-put-cap .before .before .before in
+    let at-start-cap = at-start .before in
+    record { leg = refl; puts = rw (at-start .start .ensures, at-start-cap .start-cap .ensures) at (at-put-cap .put-cap .ensures) }
 
 pub begin-spec : {M : Type 1} → statement M
 begin-spec =

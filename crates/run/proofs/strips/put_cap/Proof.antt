@@ -13,7 +13,10 @@ negative-count-requires : tie.Need-negative-count-requires
 negative-count-requires c κs = search needs
 
 step-requires : tie.Need-step-requires
-step-requires c κs = steps-one (c .before .before .before .before .before .before .before .before .before .before .before .pre) _ _ (c .before .positive-count .ensures) (c .negative-count .ensures)
+step-requires c κs =
+    let at-positive-count = c .before in
+    let entry = at-positive-count .before .before .before .before .before .before .before .before .before .before in
+    steps-one (entry .pre) _ _ (at-positive-count .positive-count .ensures) (c .negative-count .ensures)
 
 same-length : tie.Need-same-length
 same-length c = search needs
@@ -22,7 +25,12 @@ same-length-2 : tie.Need-same-length-2
 same-length-2 c = search needs
 
 returns : tie.Need-returns
-returns c = puts-one (c .before .before .before .before .before .before .before .before .before .before .before .before .pre) _ _ (c .before .before .positive-count .ensures) (c .before .negative-count .ensures) (c .step .ensures) (c .before .before .before .before .before .before .before .lay-joint .ensures)
+returns c =
+    let at-negative-count = c .before in
+    let at-positive-count = at-negative-count .before in
+    let at-lay-joint = at-positive-count .before .before .before .before .before in
+    let entry = at-lay-joint .before .before .before .before .before in
+    puts-one (entry .pre) _ _ (at-positive-count .positive-count .ensures) (at-negative-count .negative-count .ensures) (c .step .ensures) (at-lay-joint .lay-joint .ensures)
 
 pub put-cap-spec : {M : Type 1} → statement M
 put-cap-spec =

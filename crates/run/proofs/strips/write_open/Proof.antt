@@ -8,25 +8,47 @@ first-leg-requires : tie.Need-first-leg-requires
 first-leg-requires c κs = search needs
 
 begin-requires : tie.Need-begin-requires
-begin-requires c κs = rw (c .before .before .first-leg .ensures) (begin-has (c .before .before .before .before .before .before .args .o) _ _ _ (c .before .before .before .before .before .before .pre .1))
+begin-requires c κs =
+    let at-first-leg = c .before .before in
+    let entry = at-first-leg .before .before .before .before in
+    rw (at-first-leg .first-leg .ensures) (begin-has (entry .args .o) _ _ _ (entry .pre .1))
 
 add-visit-all : tie.Need-add-visit-all
 add-visit-all c = omega (arith, c .before .before .before .before .before .before .before .before .before .before .before .before .before .pre .0)
 
 visit-all-requires : tie.Need-visit-all-requires
-visit-all-requires c κs = ((c .before .before .before .before .before .before .before .before .before .before .before .before .before .pre .0 .short, omega (arith, c .before .before .before .before .before .before .before .before .before .before .before .before .before .pre .0 .few)), pass-has (c .before .before .before .before .before .before .before .before .before .before .before .before .before .args .o) _ _ _ (c .before .before .before .before .before .before .before .before .before .before .before .before .before .pre .1) (rw (c .before .before .before .before .before .before .before .before .before .first-leg .ensures) at (c .before .before .before .before .before .before .begin .ensures)))
+visit-all-requires c κs =
+    let at-begin = c .before .before .before .before .before .before in
+    let at-first-leg = at-begin .before .before .before in
+    let entry = at-first-leg .before .before .before .before in
+    ((entry .pre .0 .short, omega (arith, entry .pre .0 .few)), pass-has (entry .args .o) _ _ _ (entry .pre .1) (rw (at-first-leg .first-leg .ensures) at (at-begin .begin .ensures)))
 
 finish-requires : tie.Need-finish-requires
-finish-requires c κs = finish-has (c .before .before .before .before .before .before .before .before .before .before .before .before .before .before .before .before .before .before .before .before .args .o) _ _ _ (c .before .before .before .before .before .before .before .before .before .before .before .before .before .before .before .before .before .before .before .before .pre .1) (rw (c .before .before .before .before .before .before .before .before .before .before .before .before .before .before .before .before .first-leg .ensures) at (c .before .before .before .before .before .before .before .before .before .before .before .before .before .begin .ensures)) (c .before .before .before .before .before .before .visit-all .ensures)
+finish-requires c κs =
+    let at-visit-all = c .before .before .before .before .before .before in
+    let at-begin = at-visit-all .before .before .before .before .before .before .before in
+    let at-first-leg = at-begin .before .before .before in
+    let entry = at-first-leg .before .before .before .before in
+    finish-has (entry .args .o) _ _ _ (entry .pre .1) (rw (at-first-leg .first-leg .ensures) at (at-begin .begin .ensures)) (at-visit-all .visit-all .ensures)
 
 same-length : tie.Need-same-length
-same-length c = omega (arith, c .before .before .before .before .finish .kept, c .before .before .before .before .before .before .before .before .before .before .before .visit-all .kept, c .before .before .before .before .before .before .before .before .before .before .before .before .before .before .before .before .before .before .begin .kept)
+same-length c =
+    let at-finish = c .before .before .before .before in
+    let at-visit-all = at-finish .before .before .before .before .before .before .before in
+    let at-begin = at-visit-all .before .before .before .before .before .before .before in
+    omega (arith, at-finish .finish .kept, at-visit-all .visit-all .kept, at-begin .begin .kept)
 
 same-length-2 : tie.Need-same-length-2
 same-length-2 c = search needs
 
 returns : tie.Need-returns
-returns c = open-puts (c .before .before .before .before .before .before .before .before .before .before .before .before .before .before .before .before .before .before .before .before .before .before .before .before .before .args .o) _ _ _ (c .before .before .before .before .before .before .before .before .before .before .before .before .before .before .before .before .before .before .before .before .before .before .before .before .before .pre .1) (rw (c .before .before .before .before .before .before .before .before .before .before .before .before .before .before .before .before .before .before .before .before .before .first-leg .ensures) at (c .before .before .before .before .before .before .before .before .before .before .before .before .before .before .before .before .before .before .begin .ensures)) (c .before .before .before .before .before .before .before .before .before .before .before .visit-all .ensures) (c .before .before .before .before .finish .ensures)
+returns c =
+    let at-finish = c .before .before .before .before in
+    let at-visit-all = at-finish .before .before .before .before .before .before .before in
+    let at-begin = at-visit-all .before .before .before .before .before .before .before in
+    let at-first-leg = at-begin .before .before .before in
+    let entry = at-first-leg .before .before .before .before in
+    open-puts (entry .args .o) _ _ _ (entry .pre .1) (rw (at-first-leg .first-leg .ensures) at (at-begin .begin .ensures)) (at-visit-all .visit-all .ensures) (at-finish .finish .ensures)
 
 pub write-open-spec : {M : Type 1} → statement M
 write-open-spec =
