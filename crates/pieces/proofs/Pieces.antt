@@ -2,7 +2,7 @@
 use Prim.Native.Nat.{ℕ, _+_, _-_, _*_, _≤_}
 use mathlib.Core.Path.{_≡_, refl, sym, ap, _∙_}
 use mathlib.Core.Bool.{Bool, true, false, cond, true≢false}
-use mathlib.Core.List.{List, [], _++_, append-assoc, append-nil}
+use mathlib.Core.List.{List, [], append-nil}
 use native.Mathlib.Omega.{arith}
 use borrow.Rule.Slice.PartMut.{midOf, putMid}
 use lib.Ieee.{Float}
@@ -13,7 +13,7 @@ use Rattle.triangles.specs.Tri.{Tri, numbersOf}
 use Rattle.pieces.specs.Piece.{Vertex, floatsOf, flatV, flatT, Piece, none, joined, behind, nextVertex, anew, Lists, lent, laid, Fits, Puts}
 use Rattle.pieces.specs.declared.Place.{Place}
 use Rattle.lists.proofs.Parts.{part-is, put-part}
-use Rattle.lists.proofs.Laws.{put-start, put-none, length-put, flat-append, length-flat, put-flat}
+use Rattle.lists.proofs.Laws.{put-start, put-none, length-put, length-flat, put-flat}
 
 pub length-flatV : (vs : List Vertex) → length (flatV vs) ≡ 5 * length vs
 length-flatV = length-flat floatsOf 5 (λ v. refl)

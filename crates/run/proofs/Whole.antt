@@ -1,13 +1,13 @@
 -- A run's pieces, from what the writers of its joints put there. Assumes nothing.
 use Prim.Native.Nat.{ℕ, _+_, _-_, _*_, _/_, _≤_, _<_}
 use mathlib.Core.Path.{_≡_, refl, sym, ap, _∙_}
-use mathlib.Core.Bool.{Bool, true, false, cond}
-use mathlib.Core.List.{List, [], _∷_, _++_, append-nil}
+use mathlib.Core.Bool.{Bool, true, false}
+use mathlib.Core.List.{List, [], _∷_, append-nil}
 use native.Mathlib.Omega.{arith}
 use borrow.Rule.Slice.PartMut.{midOf, putMid}
 use lib.Dec.{ltb}
 use lib.Ieee.{Float}
-use lib.ListN.{length, take, length-append, length-drop}
+use lib.ListN.{length, take, length-drop}
 use Rattle.plane.specs.F32.{f32}
 use Rattle.endpoint.specs.declared.Endpoint.{Endpoint}
 use Rattle.endpoint.specs.declared.EndpointData.{EndpointData}
@@ -128,10 +128,6 @@ nothing-drawn o closed = pieces.puts-none
 
 module _ (o : Stroke) (closed : Bool) (k : Place) (p : Endpoint) where
   -- an empty cap is the same whether its run is closed or not
-  pub cap-is : shapePiece o closed k (emptyCap p) ≡ record { vertices = capVerticesOf (p .position) (o .«half_width») (f32 0); triangles = capTrianglesOf (record { 0 = nextVertex k }) }
-  unfolding shapeVertices shapeTriangles capTrianglesOf triangleOf
-  cap-is = refl
-
   pub cap-fits : {write : Bool} {l : Lists} → Fits write k (shapePiece o closed k (emptyCap p)) l → Fits write k (shapePiece o false k (emptyCap p)) l
   unfolding shapeTriangles
   cap-fits h = h

@@ -1,7 +1,7 @@
 -- Passes over joints one after another, from what `lists` says of pieces. Assumes nothing.
 use mathlib.Core.Path.{_≡_, refl, sym, ap, _∙_}
 use mathlib.Core.Bool.{Bool}
-use mathlib.Core.List.{List, [], _∷_, _++_, append-assoc, append-nil}
+use mathlib.Core.List.{List, [], _++_, append-assoc, append-nil}
 use Rattle.endpoint.specs.declared.EndpointData.{EndpointData}
 use Rattle.pieces.specs.Piece.{Piece, Lists, laid}
 use Rattle.pieces.specs.Piece as piece

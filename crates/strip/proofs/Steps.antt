@@ -10,7 +10,7 @@ use Rattle.strip.specs.declared.Strip.{Strip}
 use Rattle.strip.specs.declared.section.Section.{Section}
 use Rattle.strip.specs.Joint.{jointCount, verticesOf}
 use Rattle.strip.specs.Section.{beforeOf, afterOf, Narrow}
-use Rattle.strip.specs.Strip.{startOf, nextOf, stepTriangles, stepPiece, stepOf, stepsOf, trianglesFrom, pieceOf, Behind, Sound}
+use Rattle.strip.specs.Strip.{startOf, nextOf, stepPiece, stepOf, stepsOf, trianglesFrom, pieceOf, Behind, Sound}
 use Rattle.strip.proofs.Joints.{side-few, length-joint, vertices-append, length-more}
 use Rattle.pieces.specs.Limits.{numberLimit}
 use Rattle.pieces.specs.Piece.{joined, behind}

@@ -1,6 +1,5 @@
 -- One turn of `visit_all`: what was to come is what the next point brings and what is to come behind it. Assumes nothing.
 use Prim.Native.Nat.{ℕ, _+_, _*_, _≤_}
-use mathlib.Core.Path.{_≡_}
 use mathlib.Core.Bool.{Bool}
 use mathlib.Core.List.{List, _++_}
 use lib.Ieee.{Float}

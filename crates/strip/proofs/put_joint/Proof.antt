@@ -1,7 +1,8 @@
+-- `strip::put_joint` meets its contract. Assumes nothing.
 use borrow.Author.Needs.{needs}
 use native.Mathlib.Omega.{arith}
 use lib.ListN.{length-take, length-drop}
-use Rattle.strip.proofs.Writing.{numbers-fit, vertices-fit, triangles-fit, narrow, joint-laid}
+use Rattle.strip.proofs.Writing.{Sections, numbers-fit, vertices-fit, triangles-fit, narrow, joint-laid}
 use Rattle.strip.proofs.put_joint.Statement.{statement}
 use Rattle.strip.proofs.put_joint.Tie as tie
 
@@ -42,17 +43,37 @@ mul-write-past : tie.Need-mul-write-past
 mul-write-past c = omega (arith, c .before .before .before .before .before .before .before .before .before .before .before .before .before .pre .fits .faces)
 
 sub-write-past : tie.Need-sub-write-past
-sub-write-past c = omega (arith, triangles-fit (c .before .before .before .before .before .before .before .before .before .before .before .before .before .pre) (record { before = rw (c .before .before .before .before .before .before .before .before .before .next-vertex .ensures) at (c .before .before .before .before .before .before .before .before .before2 .ensures); after = rw (c .before .before .before .before .before .before .before .before .before .next-vertex .ensures) at (c .before .before .before .before .before .before .before .after .ensures); last = c .before .before .before .before .before .before .choose .ensures }))
+sub-write-past c =
+    let at-choose = c .before .before .before .before .before .before in
+    let at-after = at-choose .before in
+    let at-before2 = at-after .before in
+    let at-next-vertex = at-before2 .before in
+    let entry = at-next-vertex .before .before .before .before in
+    let x : Sections (entry .args .s) (entry .args .j) _ _ _ = record { before = rw (at-next-vertex .next-vertex .ensures) at (at-before2 .before2 .ensures); after = rw (at-next-vertex .next-vertex .ensures) at (at-after .after .ensures); last = at-choose .choose .ensures } in
+    omega (arith, triangles-fit (entry .pre) x)
 
 part-write-past-start : tie.Need-part-write-past-start
-part-write-past-start c = omega (arith, triangles-fit (c .before .before .before .before .before .before .before .before .before .before .before .before .before .pre) (record { before = rw (c .before .before .before .before .before .before .before .before .before .next-vertex .ensures) at (c .before .before .before .before .before .before .before .before .before2 .ensures); after = rw (c .before .before .before .before .before .before .before .before .before .next-vertex .ensures) at (c .before .before .before .before .before .before .before .after .ensures); last = c .before .before .before .before .before .before .choose .ensures }))
+part-write-past-start c =
+    let at-choose = c .before .before .before .before .before .before in
+    let at-after = at-choose .before in
+    let at-before2 = at-after .before in
+    let at-next-vertex = at-before2 .before in
+    let entry = at-next-vertex .before .before .before .before in
+    let x : Sections (entry .args .s) (entry .args .j) _ _ _ = record { before = rw (at-next-vertex .next-vertex .ensures) at (at-before2 .before2 .ensures); after = rw (at-next-vertex .next-vertex .ensures) at (at-after .after .ensures); last = at-choose .choose .ensures } in
+    omega (arith, triangles-fit (entry .pre) x)
 
 part-write-past-end : tie.Need-part-write-past-end
 part-write-past-end c = search needs
 
 write-past-requires : tie.Need-write-past-requires
 write-past-requires c κs =
-    (simp (length-take, length-drop) (omega (arith, triangles-fit (c .before .before .before .before .before .before .before .before .before .before .before .before .before .before .pre) (record { before = rw (c .before .before .before .before .before .before .before .before .before .before .next-vertex .ensures) at (c .before .before .before .before .before .before .before .before .before .before2 .ensures); after = rw (c .before .before .before .before .before .before .before .before .before .before .next-vertex .ensures) at (c .before .before .before .before .before .before .before .before .after .ensures); last = c .before .before .before .before .before .before .before .choose .ensures }))), narrow (c .before .before .before .before .before .before .before .before .before .before .before .before .before .before .pre) (record { before = rw (c .before .before .before .before .before .before .before .before .before .before .next-vertex .ensures) at (c .before .before .before .before .before .before .before .before .before .before2 .ensures); after = rw (c .before .before .before .before .before .before .before .before .before .before .next-vertex .ensures) at (c .before .before .before .before .before .before .before .before .after .ensures); last = c .before .before .before .before .before .before .before .choose .ensures }))
+    let at-choose = c .before .before .before .before .before .before .before in
+    let at-after = at-choose .before in
+    let at-before2 = at-after .before in
+    let at-next-vertex = at-before2 .before in
+    let entry = at-next-vertex .before .before .before .before in
+    let x : Sections (entry .args .s) (entry .args .j) _ _ _ = record { before = rw (at-next-vertex .next-vertex .ensures) at (at-before2 .before2 .ensures); after = rw (at-next-vertex .next-vertex .ensures) at (at-after .after .ensures); last = at-choose .choose .ensures } in
+    (simp (length-take, length-drop) (omega (arith, triangles-fit (entry .pre) x)), narrow (entry .pre) x)
 
 same-length : tie.Need-same-length
 same-length c = search needs
@@ -61,7 +82,16 @@ same-length-2 : tie.Need-same-length-2
 same-length-2 c = search needs
 
 returns : tie.Need-returns
-returns c = joint-laid (c .before .before .before .before .before .before .before .before .before .before .before .before .before .before .before .before .before .pre) (record { before = rw (c .before .before .before .before .before .before .before .before .before .before .before .before .before .next-vertex .ensures) at (c .before .before .before .before .before .before .before .before .before .before .before .before .before2 .ensures); after = rw (c .before .before .before .before .before .before .before .before .before .before .before .before .before .next-vertex .ensures) at (c .before .before .before .before .before .before .before .before .before .before .before .after .ensures); last = c .before .before .before .before .before .before .before .before .before .before .choose .ensures }) _ _ (c .before .before .before .before .before .before .before .write-vertices .ensures) (c .before .before .write-past .ensures .1)
+returns c =
+    let at-write-past = c .before .before in
+    let at-write-vertices = at-write-past .before .before .before .before .before in
+    let at-choose = at-write-vertices .before .before .before in
+    let at-after = at-choose .before in
+    let at-before2 = at-after .before in
+    let at-next-vertex = at-before2 .before in
+    let entry = at-next-vertex .before .before .before .before in
+    let x : Sections (entry .args .s) (entry .args .j) _ _ _ = record { before = rw (at-next-vertex .next-vertex .ensures) at (at-before2 .before2 .ensures); after = rw (at-next-vertex .next-vertex .ensures) at (at-after .after .ensures); last = at-choose .choose .ensures } in
+    joint-laid (entry .pre) x _ _ (at-write-vertices .write-vertices .ensures) (at-write-past .write-past .ensures .1)
 
 pub put-joint-spec : {M : Type 1} → statement M
 put-joint-spec =

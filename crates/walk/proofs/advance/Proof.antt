@@ -1,3 +1,4 @@
+-- `walk::advance` meets its contract. Assumes nothing.
 use borrow.Author.Needs.{needs}
 use Rattle.join.specs.Record.{countsOf}
 use Rattle.strip.proofs.Counting.{steps-one, puts-one}
@@ -13,9 +14,12 @@ lay-requires c κs = rw (c .before .before .next-leg .ensures) (c .before .befor
 step-requires : tie.Need-step-requires
 unfolding countsOf
 step-requires c κs =
-    let counts = c .before .before .before .before .lay .ensures .0 in
-    let next = c .before .before .before .before .before .before .before .next-leg .ensures in
-    steps-one (c .before .before .before .before .before .before .before .before .before .before .before .before .pre) _ _ (rw (counts, next)) (rw (counts, next))
+    let at-lay = c .before .before .before .before in
+    let at-next-leg = at-lay .before .before .before in
+    let entry = at-next-leg .before .before .before .before .before in
+    let counts = at-lay .lay .ensures .0 in
+    let next = at-next-leg .next-leg .ensures in
+    steps-one (entry .pre) _ _ (rw (counts, next)) (rw (counts, next))
 
 same-length : tie.Need-same-length
 same-length c = search needs
@@ -26,9 +30,12 @@ same-length-2 c = search needs
 returns : tie.Need-returns
 unfolding countsOf
 returns c =
-    let laid = c .before .before .before .before .before .lay .ensures in
-    let next = c .before .before .before .before .before .before .before .before .next-leg .ensures in
-    record { leg = next; puts = puts-one (c .before .before .before .before .before .before .before .before .before .before .before .before .before .pre) _ _ (rw (laid .0, next)) (rw (laid .0, next)) (c .step .ensures) (λ w. rw next at (laid .1 w)) }
+    let at-lay = c .before .before .before .before .before in
+    let at-next-leg = at-lay .before .before .before in
+    let entry = at-next-leg .before .before .before .before .before in
+    let laid = at-lay .lay .ensures in
+    let next = at-next-leg .next-leg .ensures in
+    record { leg = next; puts = puts-one (entry .pre) _ _ (rw (laid .0, next)) (rw (laid .0, next)) (c .step .ensures) (λ w. rw next at (laid .1 w)) }
 
 pub advance-spec : {M : Type 1} → statement M
 advance-spec =

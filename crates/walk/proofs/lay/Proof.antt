@@ -1,3 +1,4 @@
+-- `walk::lay` meets its contract. Assumes nothing.
 use borrow.Author.Needs.{needs}
 use mathlib.Core.Bool.{true≢false}
 use mathlib.Core.Path.{sym, _∙_}
@@ -8,7 +9,11 @@ joint-of-requires : tie.Need-joint-of-requires
 joint-of-requires c κs = search needs
 
 put-joint-requires : tie.Need-put-joint-requires
-put-joint-requires c κs = rw (c .before .before .joint-of .ensures) (rw (c .before .before .before .if1 .taken) at (c .before .before .before .before .before .before .pre))
+put-joint-requires c κs =
+    let at-joint-of = c .before .before in
+    let at-if1 = at-joint-of .before in
+    let entry = at-if1 .before .before .before in
+    rw (at-joint-of .joint-of .ensures) (rw (at-if1 .if1 .taken) at (entry .pre))
 
 counts-of-requires : tie.Need-counts-of-requires
 counts-of-requires c κs = search needs
@@ -20,7 +25,10 @@ same-length-2 : tie.Need-same-length-2
 same-length-2 c = search needs
 
 returns : tie.Need-returns
-returns c = (rw (c .counts-of .ensures, c .before .before .before .before .before .before .before .before .joint-of .ensures), λ w. rw (c .before .before .before .before .before .before .before .before .joint-of .ensures) at (c .before .before .before .before .before .put-joint .ensures))
+returns c =
+    let at-put-joint = c .before .before .before .before .before in
+    let at-joint-of = at-put-joint .before .before .before in
+    (rw (c .counts-of .ensures, at-joint-of .joint-of .ensures), λ w. rw (at-joint-of .joint-of .ensures) at (at-put-joint .put-joint .ensures))
 
 joint-counts-requires : tie.Need-joint-counts-requires
 joint-counts-requires c κs = search needs

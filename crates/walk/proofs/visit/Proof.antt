@@ -1,3 +1,4 @@
+-- `walk::visit` meets its contract. Assumes nothing.
 use borrow.Author.Needs.{needs}
 use mathlib.Core.Path.{sym, _∙_}
 use Rattle.course.specs.Walk.{visitOf, visited}
@@ -14,7 +15,12 @@ returns c = let e = sym (c .before .is-dropped .ensures) ∙ c .if1 .taken in re
 
 advance-requires : tie.Need-advance-requires
 unfolding visited
-advance-requires c κs = let e = sym (c .before .before .before .is-dropped .ensures) ∙ c .before .before .if1 .left in rw e at (c .before .before .before .before .before .before .pre)
+advance-requires c κs =
+    let at-if1 = c .before .before in
+    let at-is-dropped = at-if1 .before in
+    let entry = at-is-dropped .before .before .before in
+    let e = sym (at-is-dropped .is-dropped .ensures) ∙ at-if1 .if1 .left in
+    rw e at (entry .pre)
 
 same-length : tie.Need-same-length
 same-length c = search needs
@@ -24,7 +30,12 @@ same-length-2 c = search needs
 
 returns-2 : tie.Need-returns-2
 unfolding visitOf visited
-returns-2 c = let e = sym (c .before .before .before .before .before .before .before .before .is-dropped .ensures) ∙ c .before .before .before .before .before .before .before .if1 .left in record { leg = rw e (c .before .before .before .before .advance .ensures .leg); puts = rw e (c .before .before .before .before .advance .ensures .puts) }
+returns-2 c =
+    let at-advance = c .before .before .before .before in
+    let at-if1 = at-advance .before .before .before in
+    let at-is-dropped = at-if1 .before in
+    let e = sym (at-is-dropped .is-dropped .ensures) ∙ at-if1 .if1 .left in
+    record { leg = rw e (at-advance .advance .ensures .leg); puts = rw e (at-advance .advance .ensures .puts) }
 
 pub visit-spec : {M : Type 1} → statement M
 visit-spec =

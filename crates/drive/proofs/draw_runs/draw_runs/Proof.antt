@@ -1,3 +1,4 @@
+-- `drive::draw_runs::draw_runs` meets its contract. Assumes nothing.
 use borrow.Author.Needs.{needs}
 use Prim.Native.Nat.{_-_}
 use mathlib.Core.Path.{_≡_, refl}
@@ -6,7 +7,6 @@ use lib.ListN.{length}
 use Rattle.pieces.specs.Piece.{lent}
 use Rattle.points.specs.Points.{endpointsOf}
 use Rattle.drive.proofs.Drawing.{Going, going-none, going-inside, going-fits, going-turn, going-all}
--- `drive::draw_runs::draw_runs` meets its contract. Assumes nothing.
 use Rattle.drive.proofs.draw_runs.draw_runs.Statement.{statement}
 use Rattle.drive.proofs.draw_runs.draw_runs.Tie as tie
 

@@ -1,3 +1,4 @@
+-- `drive::draw_runs::draw_verb` meets its contract. Assumes nothing.
 use borrow.Author.Needs.{needs}
 use mathlib.Core.Path.{_≡_, sym, _∙_}
 use mathlib.Core.Bool.{false}
@@ -10,7 +11,6 @@ use Rattle.points.proofs.Indexed.{points-part}
 use Rattle.drive.specs.Cursor.{endedOf}
 use Rattle.drive.specs.Runs.{meshVertices, meshTriangles}
 use Rattle.drive.proofs.Drawing.{part-fits, part-few, part-puts}
--- `drive::draw_runs::draw_verb` meets its contract. Assumes nothing.
 use Rattle.drive.proofs.draw_runs.draw_verb.Statement.{statement}
 use Rattle.drive.proofs.draw_runs.draw_verb.Tie as tie
 

@@ -1,3 +1,4 @@
+-- `run::draw::close_round` meets its contract. Assumes nothing.
 use borrow.Author.Needs.{needs}
 use native.Mathlib.Omega.{arith}
 use mathlib.Core.Bool.{true≢false}

@@ -1,3 +1,4 @@
+-- `run::draw::draw_closed` meets its contract. Assumes nothing.
 use borrow.Author.Needs.{needs}
 use native.Mathlib.Omega.{arith}
 use Rattle.run.proofs.Whole.{closed-has, rounds, two-joints, end-is, closed-drawn}

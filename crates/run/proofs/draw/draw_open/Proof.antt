@@ -1,3 +1,4 @@
+-- `run::draw::draw_open` meets its contract. Assumes nothing.
 use borrow.Author.Needs.{needs}
 use Rattle.run.proofs.Whole.{open-has, open-drawn}
 use Rattle.run.proofs.draw.draw_open.Statement.{statement}

@@ -1,3 +1,4 @@
+-- `run::draw::draw_run` meets its contract. Assumes nothing.
 use borrow.Author.Needs.{needs}
 use lib.ListN.{length}
 use lib.Seq.{length-take-le}

@@ -1,3 +1,4 @@
+-- `run::draw::lay_empty_cap` meets its contract. Assumes nothing.
 use borrow.Author.Needs.{needs}
 use native.Mathlib.Omega.{arith}
 use mathlib.Core.Bool.{false, true≢false}

@@ -1,3 +1,4 @@
+-- `run::strips::begin` meets its contract. Assumes nothing.
 use borrow.Author.Needs.{needs}
 use mathlib.Core.Path.{refl}
 use Rattle.run.proofs.strips.begin.Statement.{statement}

@@ -1,3 +1,4 @@
+-- `run::strips::finish` meets its contract. Assumes nothing.
 use borrow.Author.Needs.{needs}
 use Rattle.run.proofs.strips.finish.Statement.{statement}
 use Rattle.run.proofs.strips.finish.Tie as tie

@@ -1,3 +1,4 @@
+-- `run::strips::go_round` meets its contract. Assumes nothing.
 use native.Mathlib.Omega.{arith}
 use Prim.Native.Nat.{_*_, _+_, _≤_}
 use mathlib.Core.Path.{sym}

@@ -1,3 +1,4 @@
+-- `run::strips::put_cap` meets its contract. Assumes nothing.
 use borrow.Author.Needs.{needs}
 use Rattle.strip.proofs.Counting.{steps-one, puts-one}
 use Rattle.run.proofs.strips.put_cap.Statement.{statement}

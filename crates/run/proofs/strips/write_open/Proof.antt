@@ -1,3 +1,4 @@
+-- `run::strips::write_open` meets its contract. Assumes nothing.
 use borrow.Author.Needs.{needs}
 use native.Mathlib.Omega.{arith}
 use Rattle.run.proofs.Writing.{begin-has, pass-has, finish-has, open-puts}

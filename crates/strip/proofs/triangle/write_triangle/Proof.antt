@@ -5,7 +5,6 @@ use lib.ListN.{length}
 use Rattle.lists.proofs.Laws.{over-none}
 use Rattle.vertices.specs.Vertex.{triangleOf}
 use Rattle.lists.specs.Over.{flat}
-use Rattle.pieces.specs.Piece.{flatT}
 use Rattle.strip.proofs.Triangles.{tri-some, tri-none}
 use borrow.Author.Needs.{needs}
 use Rattle.strip.proofs.triangle.write_triangle.Statement.{statement}
