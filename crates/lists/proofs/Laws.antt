@@ -108,17 +108,6 @@ module _ {A : Type 0} where
   put-is-over (suc k) vs [] = over-nil vs
   put-is-over (suc k) vs (x ∷ xs) = ap (λ (l : List A). x ∷ l) (put-is-over k vs xs)
 
-  -- two that do not touch, in either order
-  pub put-swap : (j k : ℕ) (vs ws xs : List A) → j + length vs ≤ k → putAt k ws (putAt j vs xs) ≡ putAt j vs (putAt k ws xs)
-  unfolding putAt over
-  put-swap zero k [] ws xs h = refl
-  put-swap zero zero (v ∷ vs) ws xs h = absurd (omega arith)
-  put-swap zero (suc k) (v ∷ vs) ws [] h = refl
-  put-swap zero (suc k) (v ∷ vs) ws (x ∷ xs) h = ap (λ (l : List A). v ∷ l) (put-swap zero k vs ws xs (omega arith))
-  put-swap (suc j) zero vs ws xs h = absurd (omega arith)
-  put-swap (suc j) (suc k) vs ws [] h = refl
-  put-swap (suc j) (suc k) vs ws (x ∷ xs) h = ap (λ (l : List A). x ∷ l) (put-swap j k vs ws xs (omega arith))
-
 -- ---- spelt lists
 module _ {A B : Type 0} (f : A → List B) where
   pub flat-append : (xs ys : List A) → flat f (xs ++ ys) ≡ flat f xs ++ flat f ys

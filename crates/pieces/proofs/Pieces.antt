@@ -10,7 +10,7 @@ use lib.ListN.{length, length-append, length-drop}
 use Rattle.endpoint.specs.declared.VertexId.{VertexId}
 use Rattle.lists.specs.Over.{over, putAt, flat}
 use Rattle.triangles.specs.Tri.{Tri, numbersOf}
-use Rattle.pieces.specs.Piece.{Vertex, floatsOf, flatV, flatT, Piece, none, joined, behind, nextVertex, anew, Lists, lent, laid, Fits, Puts}
+use Rattle.pieces.specs.Piece.{Vertex, floatsOf, flatV, flatT, Piece, none, joined, behind, anew, Lists, lent, laid, Fits, Puts}
 use Rattle.pieces.specs.declared.Place.{Place}
 use Rattle.lists.proofs.Parts.{part-is, put-part}
 use Rattle.lists.proofs.Laws.{put-start, put-none, length-put, length-flat, put-flat}

@@ -1,11 +1,11 @@
 -- The arithmetic of `operand_of`: m * 2 ^ k units, times 2 ^ 149, as n * 2 ^ g * 2 ^ g for an n of 47 or 48 digits. Assumes nothing.
-use mathlib.Core.Path.{_≡_, refl, sym, ap, _∙_, subst}
+use mathlib.Core.Path.{_≡_, refl, sym, ap, _∙_}
 use Prim.Native.Nat.{ℕ, zero, suc, _+_, _-_, _*_, _/_, _%_, _^_, _≤_, _<_}
-use native.Mathlib.Nat.{le-trans, le-of-eq, lt-of-lt-of-le, mul-assoc, mul-le-mul-right, mul-le-mul-left, mod-eq-of-lt, lt-of-not-le, not-le-of-lt, suc-mul}
+use native.Mathlib.Nat.{le-trans, le-of-eq, lt-of-lt-of-le, mul-assoc, mul-le-mul-right, mod-eq-of-lt, lt-of-not-le, not-le-of-lt, suc-mul}
 use native.Mathlib.Omega.{arith}
 use mathlib.Core.Bool.{false}
 use lib.Dec.{lit≤}
-use lib.Pow.{pow-add, pow-mono, pow-pos}
+use lib.Pow.{pow-add, pow-mono}
 use lib.Count.{leadingZeros, leading-top}
 use lib.Ieee.{binary32, ofBits}
 use lib.Ieee.Exact.{HasValue}
