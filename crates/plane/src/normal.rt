@@ -6,6 +6,8 @@ use crate::vector::over;
 use crate::vector::plus;
 use crate::vector::square_length;
 use crate::vector::turned;
+use refusals::ACCEPTED;
+use refusals::BAD_COORDINATE;
 ghost use mathlib.Core.Bool.{_&&_};
 ghost use mathlib.Core.Path.{_≡_};
 ghost use Rattle.plane.specs.F32.{sizeBelow, sizeAtMost};
@@ -85,13 +87,13 @@ pub fn normal_answer_of(d: JoinDirection) -> NormalAnswer
 {
     match d {
         JoinDirection::Normal(x, y) => NormalAnswer {
-            number: 0,
+            number: ACCEPTED,
             place: 0,
             x: x,
             y: y,
         },
         JoinDirection::Refused => NormalAnswer {
-            number: 4,
+            number: BAD_COORDINATE,
             place: 0,
             x: 0.0,
             y: 0.0,

@@ -2,6 +2,11 @@
 use crate::counts::Counts;
 use crate::counts::Found;
 use path::verbs::VERB_LIMIT;
+use refusals::ACCEPTED;
+use refusals::LARGE_NUMBER;
+use refusals::LONG_TEXT;
+use refusals::MALFORMED_TEXT;
+use refusals::READER_ROOM;
 ghost use mathlib.Core.Path.{_≡_};
 ghost use Rattle.reader.specs.Answer.{readAnswerOf, withCounts, withPlace, isPath, roomOf, judgedOf};
 
@@ -67,10 +72,10 @@ pub fn read_answer_of(r: Reading) -> ReadAnswer
 {
     match r {
         Reading::Path(verbs, coords) => with_counts(verbs, coords),
-        Reading::TooLong => with_place(8, 0),
-        Reading::OutOfForm(place) => with_place(9, place),
-        Reading::TooLarge(place) => with_place(10, place),
-        Reading::NoRoom => with_place(11, 0),
+        Reading::TooLong => with_place(LONG_TEXT, 0),
+        Reading::OutOfForm(place) => with_place(MALFORMED_TEXT, place),
+        Reading::TooLarge(place) => with_place(LARGE_NUMBER, place),
+        Reading::NoRoom => with_place(READER_ROOM, 0),
     }
 }
 
@@ -78,7 +83,7 @@ fn with_counts(verbs: usize, coords: usize) -> ReadAnswer
     ensures { λ r. ⌜ r ≡ withCounts verbs coords ⌝ }
 {
     ReadAnswer {
-        number: 0,
+        number: ACCEPTED,
         place: 0,
         verbs: verbs,
         coords: coords,

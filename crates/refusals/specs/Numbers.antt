@@ -1,5 +1,8 @@
 -- Document 01's "What each number means": the one place where the numbers stand. Assumes nothing.
 use Prim.Native.Nat.{ℕ}
+use Rattle.refusals.specs.declared.Refusal.{Refusal}
+use Rattle.refusals.specs.declared.Refusal.the-variants.{OutOfRange, TooManyVerbs, Verb, Coordinate}
+use Rattle.refusals.specs.declared.Verdict.{Verdict}
 
 pub data Meaning : Type 0 where
   -- "accepted"
@@ -46,3 +49,14 @@ numberOf largeNumber = 10
 numberOf readerRoom = 11
 numberOf windowRefused = 12
 numberOf noRoot = 13
+
+-- a row of the table, with its place
+abbrev pub verdict : Meaning → ℕ → Verdict
+verdict meaning place = record { number = numberOf meaning; place = place }
+
+-- what each case of refusals 1 to 4 stands for
+abbrev pub verdictOf : Refusal → Verdict
+verdictOf OutOfRange = verdict outOfRange 0
+verdictOf TooManyVerbs = verdict tooManyVerbs 0
+verdictOf (Verb i) = verdict misplacedVerb i
+verdictOf (Coordinate i) = verdict badCoordinate i

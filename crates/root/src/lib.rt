@@ -4,6 +4,8 @@ mod whole;
 
 use pattern::INFINITY;
 use pattern::root_bits;
+use refusals::ACCEPTED;
+use refusals::NO_ROOT;
 ghost use mathlib.Core.Path.{_≡_};
 ghost use Rattle.root.specs.Answer.{Answers, answerOf};
 
@@ -48,12 +50,12 @@ pub fn answer_of(r: Rooted) -> Answer
 {
     match r {
         Rooted::Root(value) => Answer {
-            number: 0,
+            number: ACCEPTED,
             place: 0,
             value: value,
         },
         Rooted::Refused => Answer {
-            number: 13,
+            number: NO_ROOT,
             place: 0,
             value: 0.0,
         },

@@ -1,6 +1,8 @@
 // What the window answers, and the number and values that each answer stands for.
 use endpoint::EndpointData;
 use endpoint::blank;
+use refusals::ACCEPTED;
+use refusals::WINDOW_REFUSED;
 ghost use mathlib.Core.Path.{_≡_};
 ghost use Rattle.window.specs.Answer.{getAnswerOf, changeAnswerOf};
 
@@ -34,12 +36,12 @@ pub fn get_answer_of(g: Got) -> GetAnswer
 {
     match g {
         Got::Found(e) => GetAnswer {
-            number: 0,
+            number: ACCEPTED,
             place: 0,
             endpoint: e,
         },
         Got::Refused => GetAnswer {
-            number: 12,
+            number: WINDOW_REFUSED,
             place: 0,
             endpoint: blank(),
         },
@@ -52,11 +54,11 @@ pub fn change_answer_of(c: Change) -> ChangeAnswer
 {
     match c {
         Change::Done => ChangeAnswer {
-            number: 0,
+            number: ACCEPTED,
             place: 0,
         },
         Change::Refused => ChangeAnswer {
-            number: 12,
+            number: WINDOW_REFUSED,
             place: 0,
         },
     }
