@@ -15,6 +15,10 @@ use Rattle.endpoint.specs.declared.SidePoints.{SidePoints}
 use Rattle.endpoint.specs.declared.SidePoints.the-variants.{Single, Pair}
 use Rattle.endpoint.specs.declared.VertexId.{VertexId}
 
+-- a number is a u32: it is below
+abbrev pub idLimit : ℕ
+idLimit = 4294967296
+
 -- "An endpoint number and a vertex number are counted apart": n behind another
 abbrev pub endpointAfter : EndpointId → ℕ → EndpointId
 endpointAfter first n = record { 0 = first .0 + n }

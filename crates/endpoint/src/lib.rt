@@ -2,7 +2,7 @@
 use plane::vector::Point;
 ghost use mathlib.Core.Path.{_≡_};
 ghost use Prim.Native.Nat.{_+_, _<_};
-ghost use Rattle.endpoint.specs.Endpoint.{endpointAfter, vertexAfter, blankOf, signOf, singleOf, pairOf, sideCountOf};
+ghost use Rattle.endpoint.specs.Endpoint.{idLimit, endpointAfter, vertexAfter, blankOf, signOf, singleOf, pairOf, sideCountOf};
 
 // Endpoints and vertices are counted apart.
 pub struct EndpointId(pub u32);
@@ -11,14 +11,14 @@ pub struct VertexId(pub u32);
 
 // The endpoint that comes n behind another, and the vertex that does.
 pub fn endpoint_after(first: EndpointId, n: usize) -> EndpointId
-    requires { ⌜ first .0 + n < 4294967296 ⌝ }
+    requires { ⌜ first .0 + n < idLimit ⌝ }
     ensures { λ r. ⌜ r ≡ endpointAfter first n ⌝ }
 {
     EndpointId(first.0 + n as u32)
 }
 
 pub fn vertex_after(base: VertexId, n: usize) -> VertexId
-    requires { ⌜ base .0 + n < 4294967296 ⌝ }
+    requires { ⌜ base .0 + n < idLimit ⌝ }
     ensures { λ r. ⌜ r ≡ vertexAfter base n ⌝ }
 {
     VertexId(base.0 + n as u32)

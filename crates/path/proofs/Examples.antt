@@ -1,31 +1,21 @@
--- Closed examples, computed by the checker over `strokeOf` and `checkedOf`: one statement over one list. Assumes nothing.
+-- Closed examples, computed by the checker over `checkedOf`: one statement over one list. Assumes nothing.
 use mathlib.Core.Path.{_≡_, refl}
 use mathlib.Core.Bool.{Bool, true, _&&_}
 use mathlib.Core.List.{List, [], _∷_, map}
 use Prim.Native.Nat.{ℕ}
 use lib.Dec.{eqb}
-use lib.Ieee.{binary32, mul, neg, lt, eq, le, ofBits, toBits}
+use lib.Ieee.{neg, lt, eq, le, ofBits}
 use lib.ListN.{replicate}
 use Rattle.plane.specs.F32.{f32}
-use Rattle.path.specs.Options.{within, inRange, lineJoinOf, clipOf, preparedOf, strokeOf}
 use Rattle.path.specs.Verbs.{begin, line, endOpen, endClosed, names, named, placed, firstMisplaced, endsInside, pointCount}
 use Rattle.path.specs.Coordinates.{coordinateIn, firstOutside}
 use Rattle.path.specs.Path.{malformed, checkedOf}
-use Rattle.path.specs.declared.options.Options.{Options}
 
 pub data Case : Type 0 where
-  -- the patterns of width and miter limit, join and cap; then the number, and the patterns of half width and clip
-  stroke : ℕ → ℕ → ℕ → ℕ → ℕ → ℕ → ℕ → Case
   -- verbs and the patterns of the coordinates; then the number and the place
   path : List ℕ → List ℕ → ℕ → ℕ → Case
 
-abbrev options : ℕ → ℕ → ℕ → ℕ → Options
-options w m j c = record { width = f32 w; «miter_limit» = f32 m; «line_join» = j; cap = c }
-
 says : Case → Bool
-says (stroke w m j c number h clip) =
-    let a = strokeOf (options w m j c) in
-    eqb (a .number) number && eqb (a .place) 0 && (eqb (toBits binary32 (a .stroke .«half_width»)) h && eqb (toBits binary32 (a .stroke .clip)) clip)
 says (path vs cs number place) = let a = checkedOf vs (map f32 cs) in eqb (a .number) number && eqb (a .place) place
 
 pub every : List Case → Bool
@@ -34,20 +24,8 @@ every (c ∷ cs) = says c && every cs
 
 pub cases : List Case
 cases =
-    -- width 2 and limit 4, with Butt and with Square
-    stroke 0x40000000 0x40800000 0 0 0 0x3f800000 0 ∷ stroke 0x40000000 0x40800000 2 1 0 0x3f800000 0x3f800000
-    -- width 1/256 and the f32 below it, 16,384 and the next; a NaN
-    ∷ stroke 0x3b800000 0x40800000 0 1 0 0x3b000000 0x3b000000 ∷ stroke 0x3b7fffff 0x40800000 0 1 1 0 0
-    ∷ stroke 0x46800000 0x40800000 0 1 0 0x46000000 0x46000000 ∷ stroke 0x46800001 0x40800000 0 1 1 0 0
-    ∷ stroke 0x7fc00000 0x40800000 0 1 1 0 0
-    -- limit 1 and the f32 below it, 1,024 and the next; a NaN
-    ∷ stroke 0x40000000 0x3f800000 1 0 0 0x3f800000 0 ∷ stroke 0x40000000 0x3f7fffff 1 0 1 0 0
-    ∷ stroke 0x40000000 0x44800000 1 0 0 0x3f800000 0 ∷ stroke 0x40000000 0x44800001 1 0 1 0 0
-    ∷ stroke 0x40000000 0x7fc00000 1 0 1 0 0
-    -- no such join, no such cap
-    ∷ stroke 0x40000000 0x40800000 3 0 1 0 0 ∷ stroke 0x40000000 0x40800000 0 2 1 0 0
     -- no verbs; a closed run and an open one
-    ∷ path [] [] 0 0 ∷ path (begin ∷ line ∷ endClosed ∷ begin ∷ endOpen ∷ []) (0 ∷ 0 ∷ 0 ∷ 0 ∷ 0 ∷ 0 ∷ []) 0 0
+    path [] [] 0 0 ∷ path (begin ∷ line ∷ endClosed ∷ begin ∷ endOpen ∷ []) (0 ∷ 0 ∷ 0 ∷ 0 ∷ 0 ∷ 0 ∷ []) 0 0
     -- 4,097 verbs get 2 before their first gets 3
     ∷ path (replicate 4097 line) [] 2 0 ∷ path (replicate 4096 line) [] 3 0
     -- P7: line first: 3, place 0; begin only: 3, place 1
@@ -65,5 +43,5 @@ cases =
     ∷ path (begin ∷ []) (0x7fc00000 ∷ 0 ∷ []) 3 1 ∷ []
 
 pub worked : every cases ≡ true
-unfolding every says cases strokeOf inRange within lineJoinOf clipOf preparedOf checkedOf malformed names named placed firstMisplaced endsInside pointCount coordinateIn firstOutside mul neg lt eq le ofBits toBits
+unfolding every says cases checkedOf malformed names named placed firstMisplaced endsInside pointCount coordinateIn firstOutside neg lt eq le ofBits
 worked = refl

@@ -8,10 +8,12 @@ use lib.Dec.{ltb, eqb}
 use lib.ListN.{length}
 use lib.Ieee.{Float}
 use borrow.Author.Tests.{lt-ltb, le-ltb, eq-eqb, ne-eqb}
-use Rattle.path.specs.Verbs.{verbLimit, firstMisplaced, endsInside, pointCount, Scanned}
+use Rattle.refusals.specs.declared.Refusal.the-variants.{TooManyVerbs, Verb, Coordinate}
+use Rattle.path.specs.Limits.{verbLimit}
+use Rattle.path.specs.Verbs.{firstMisplaced, endsInside, pointCount, Scanned}
 use Rattle.path.specs.Coordinates.{firstOutside}
 use Rattle.path.specs.Path.{malformed, checkedOf, checkAnswerOf}
-use Rattle.path.specs.declared.Checked.the-variants.{Accepted, TooManyVerbs, Verb, Coordinate}
+use Rattle.path.specs.declared.Checked.the-variants.{Accepted, Refused}
 use Rattle.path.specs.declared.verbs.Scan.{Scan}
 use Rattle.path.proofs.Laws.{count-le}
 use Rattle.path.proofs.Placing.{misplaced-le}
@@ -23,7 +25,7 @@ count-few vs few s e h =
     omega (arith, e .points whole, count-le vs)
 
 module _ (vs : List ℕ) (cs : List Float) where
-  pub says-many : verbLimit < length vs → checkAnswerOf TooManyVerbs ≡ checkedOf vs cs
+  pub says-many : verbLimit < length vs → checkAnswerOf (Refused TooManyVerbs) ≡ checkedOf vs cs
   unfolding checkedOf
   says-many h = rw (lt-ltb verbLimit (length vs) h)
 
@@ -31,7 +33,7 @@ module _ (vs : List ℕ) (cs : List Float) where
     not-many : ltb verbLimit (length vs) ≡ false
     not-many = le-ltb verbLimit (length vs) few
 
-    pub says-misplaced : s .place < length vs → checkAnswerOf (Verb (s .place)) ≡ checkedOf vs cs
+    pub says-misplaced : s .place < length vs → checkAnswerOf (Refused (Verb (s .place))) ≡ checkedOf vs cs
     unfolding checkedOf malformed
     says-misplaced h = let g : firstMisplaced false vs < length vs = rw (e .place) at h in rw (e .place, not-many, lt-ltb _ _ g)
 
@@ -42,7 +44,7 @@ module _ (vs : List ℕ) (cs : List Float) where
       not-misplaced : ltb (firstMisplaced false vs) (length vs) ≡ false
       not-misplaced = le-ltb (firstMisplaced false vs) (length vs) (omega (arith, e .place))
 
-      pub says-inside : s .inside ≡ true → checkAnswerOf (Verb (s .place)) ≡ checkedOf vs cs
+      pub says-inside : s .inside ≡ true → checkAnswerOf (Refused (Verb (s .place))) ≡ checkedOf vs cs
       unfolding checkedOf malformed
       says-inside t = let g : endsInside false vs ≡ true = sym (e .inside whole) ∙ t in rw (e .place, not-many, not-misplaced, g)
 
@@ -50,7 +52,7 @@ module _ (vs : List ℕ) (cs : List Float) where
         outside : endsInside false vs ≡ false
         outside = sym (e .inside whole) ∙ t
 
-        pub says-uneven : (length cs ≡ 2 * s .points → ⊥) → checkAnswerOf (Verb (s .place)) ≡ checkedOf vs cs
+        pub says-uneven : (length cs ≡ 2 * s .points → ⊥) → checkAnswerOf (Refused (Verb (s .place))) ≡ checkedOf vs cs
         unfolding checkedOf malformed
         says-uneven n =
             let g : length cs ≡ 2 * pointCount vs → ⊥ = λ z. n (omega (arith, e .points whole)) in
@@ -60,7 +62,7 @@ module _ (vs : List ℕ) (cs : List Float) where
           even : eqb (length cs) (2 * pointCount vs) ≡ true
           even = eq-eqb (length cs) (2 * pointCount vs) (omega (arith, e .points whole))
 
-          pub says-large : k < length cs → checkAnswerOf (Coordinate k) ≡ checkedOf vs cs
+          pub says-large : k < length cs → checkAnswerOf (Refused (Coordinate k)) ≡ checkedOf vs cs
           unfolding checkedOf malformed
           says-large l = let g : firstOutside cs < length cs = rw q at l in rw (q, not-many, not-misplaced, outside, even, lt-ltb _ _ g)
 

@@ -11,12 +11,13 @@ use lib.ListN.{length, getD}
 use lib.Ieee.{Float, nan, inf, fin, neg, lt, le, eq, ofBits}
 use lib.Ieee.Scale.{finite}
 use borrow.Author.Tests.{ltb-false, eqb-true, le-ltb, eq-eqb, not-false}
-use Rattle.refusals.specs.Numbers.{numberOf, accepted}
+use Rattle.refusals.specs.Numbers.{numberOf, accepted, verdict}
+use Rattle.refusals.specs.declared.Verdict.{Verdict}
 use Rattle.plane.specs.Normal.{pick}
-use Rattle.path.specs.Verbs.{verbLimit, firstMisplaced, pointCount}
+use Rattle.path.specs.Limits.{verbLimit}
+use Rattle.path.specs.Verbs.{firstMisplaced, pointCount}
 use Rattle.path.specs.Coordinates.{coordinateIn, firstOutside}
-use Rattle.path.specs.Path.{malformed, rowOf, checkedOf, Sound}
-use Rattle.path.specs.declared.CheckAnswer.{CheckAnswer}
+use Rattle.path.specs.Path.{malformed, checkedOf, Sound}
 use Rattle.path.proofs.Placing.{named-le, misplaced-le}
 
 -- no more points than verbs
@@ -26,7 +27,7 @@ count-le [] = omega arith
 count-le (v ∷ vs) = omega (arith, named-le v, count-le vs)
 
 -- where all is accepted, no test that refuses was passed
-not-refused : (t : Bool) (x y : CheckAnswer) → eqb (x .number) (numberOf accepted) ≡ false → pick t x y .number ≡ numberOf accepted → (t ≡ false) × (y .number ≡ numberOf accepted)
+not-refused : (t : Bool) (x y : Verdict) → eqb (x .number) (numberOf accepted) ≡ false → pick t x y .number ≡ numberOf accepted → (t ≡ false) × (y .number ≡ numberOf accepted)
 not-refused true x y n e = absurd (true≢false (rw e at n))
 not-refused false x y n e = (refl, e)
 
@@ -61,7 +62,7 @@ module _ (vs : List ℕ) (cs : List Float) where
         within = le-antisymm (outside-le cs) (ltb-false (firstOutside cs) (length cs) (fourth .0));
       }
 
-  pub sound-accepted : Sound vs cs → checkedOf vs cs ≡ rowOf accepted 0
+  pub sound-accepted : Sound vs cs → checkedOf vs cs ≡ verdict accepted 0
   unfolding checkedOf malformed
   sound-accepted s =
       rw (

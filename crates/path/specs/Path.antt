@@ -6,35 +6,30 @@ use mathlib.Core.List.{List}
 use lib.Dec.{ltb, eqb}
 use lib.ListN.{length}
 use lib.Ieee.{Float}
-use Rattle.refusals.specs.Numbers.{Meaning, numberOf, accepted, tooManyVerbs, misplacedVerb, badCoordinate}
+use Rattle.refusals.specs.Numbers.{verdict, verdictOf, accepted, tooManyVerbs, misplacedVerb, badCoordinate}
+use Rattle.refusals.specs.declared.Verdict.{Verdict}
 use Rattle.plane.specs.Normal.{pick}
-use Rattle.path.specs.Verbs.{verbLimit, firstMisplaced, endsInside, pointCount}
+use Rattle.path.specs.Limits.{verbLimit}
+use Rattle.path.specs.Verbs.{firstMisplaced, endsInside, pointCount}
 use Rattle.path.specs.Coordinates.{firstOutside}
-use Rattle.path.specs.declared.CheckAnswer.{CheckAnswer}
 use Rattle.path.specs.declared.Checked.{Checked}
-use Rattle.path.specs.declared.Checked.the-variants.{Accepted, TooManyVerbs, Verb, Coordinate}
+use Rattle.path.specs.declared.Checked.the-variants.{Accepted, Refused}
 
 -- "unknown verb, begin inside a run, line or end outside, list ends inside; or coordinates not exactly two per begin or line"
 unfoldable pub malformed : List ℕ → List Float → Bool
 malformed vs cs = ltb (firstMisplaced false vs) (length vs) || endsInside false vs || not (eqb (length cs) (2 * pointCount vs))
 
--- the number of a row of document 01's table, and a place
-abbrev pub rowOf : Meaning → ℕ → CheckAnswer
-rowOf meaning place = record { number = numberOf meaning; place = place }
-
 -- "Order is by number within a call: all of 3 before any 4."
-unfoldable pub checkedOf : List ℕ → List Float → CheckAnswer
+unfoldable pub checkedOf : List ℕ → List Float → Verdict
 checkedOf vs cs =
-    pick (ltb verbLimit (length vs)) (rowOf tooManyVerbs 0)
-    (pick (malformed vs cs) (rowOf misplacedVerb (firstMisplaced false vs))
-    (pick (ltb (firstOutside cs) (length cs)) (rowOf badCoordinate (firstOutside cs)) (rowOf accepted 0)))
+    pick (ltb verbLimit (length vs)) (verdict tooManyVerbs 0)
+    (pick (malformed vs cs) (verdict misplacedVerb (firstMisplaced false vs))
+    (pick (ltb (firstOutside cs) (length cs)) (verdict badCoordinate (firstOutside cs)) (verdict accepted 0)))
 
 -- what each case of `check_path`'s answer stands for
-abbrev pub checkAnswerOf : Checked → CheckAnswer
-checkAnswerOf Accepted = rowOf accepted 0
-checkAnswerOf TooManyVerbs = rowOf tooManyVerbs 0
-checkAnswerOf (Verb i) = rowOf misplacedVerb i
-checkAnswerOf (Coordinate i) = rowOf badCoordinate i
+abbrev pub checkAnswerOf : Checked → Verdict
+checkAnswerOf Accepted = verdict accepted 0
+checkAnswerOf (Refused r) = verdictOf r
 
 -- what an accepted path is, for the layers above: the number is 0 exactly then (proofs/Laws.antt)
 pub record Sound (vs : List ℕ) (cs : List Float) : Type 0 where

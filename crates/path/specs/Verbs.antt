@@ -20,10 +20,6 @@ endOpen = 2
 abbrev pub endClosed : ℕ
 endClosed = 3
 
--- "At most 4,096 verbs."
-abbrev pub verbLimit : ℕ
-verbLimit = 4096
-
 -- "two to each begin or line": the verbs that name a point, after which the path is inside a run
 unfoldable pub names : ℕ → Bool
 names v = eqb v begin || eqb v line

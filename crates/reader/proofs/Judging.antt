@@ -13,7 +13,7 @@ use Rattle.form.specs.Machine.{final, mayEnd, stop}
 use Rattle.form.proofs.Parse.{never}
 use Rattle.refusals.specs.Numbers.{numberOf, readerRoom}
 use Rattle.lists.specs.Over.{over}
-use Rattle.path.specs.Verbs.{verbLimit}
+use Rattle.path.specs.Limits.{verbLimit}
 use Rattle.values.specs.State.{eventsIn}
 use Rattle.reader.specs.declared.answer.ReadAnswer.{ReadAnswer}
 use Rattle.reader.specs.declared.counts.Counts.{Counts}

@@ -3,7 +3,7 @@ use Prim.Native.Nat.{ℕ}
 use mathlib.Core.Bool.{Bool, cond, _||_}
 use lib.Dec.{ltb, eqb}
 use Rattle.refusals.specs.Numbers.{numberOf, accepted, longText, malformedText, largeNumber, readerRoom}
-use Rattle.path.specs.Verbs.{verbLimit}
+use Rattle.path.specs.Limits.{verbLimit}
 use Rattle.reader.specs.declared.answer.Reading.{Reading}
 use Rattle.reader.specs.declared.answer.Reading.the-variants.{Path, TooLong, OutOfForm, TooLarge, NoRoom}
 use Rattle.reader.specs.declared.answer.ReadAnswer.{ReadAnswer}

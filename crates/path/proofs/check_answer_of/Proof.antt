@@ -6,36 +6,18 @@ use Rattle.path.proofs.check_answer_of.Tie as tie
 enum-told : tie.Need-enum-told
 enum-told c = search needs
 
-enum-told-2 : tie.Need-enum-told-2
-enum-told-2 c = search needs
-
 enum-known-c : tie.Need-enum-known-c
 enum-known-c c = search needs
 
-enum-known-c-2 : tie.Need-enum-known-c-2
-enum-known-c-2 c = search needs
+verdict-of-requires : tie.Need-verdict-of-requires
+verdict-of-requires c κs = search needs
 
 returns : tie.Need-returns
 returns c = rw (c .enum-told .given .1)
 
 returns-2 : tie.Need-returns-2
-returns-2 c = rw (c .enum-told2 .given .1)
-
-returns-3 : tie.Need-returns-3
-returns-3 c = rw (c .before .c .given .1)
-
-returns-4 : tie.Need-returns-4
-returns-4 c = rw (c .before .c2 .given .1)
+returns-2 c = rw (c .before .before .c .given .1) (c .verdict-of .ensures)
 
 pub check-answer-of-spec : {M : Type 1} → statement M
 check-answer-of-spec =
-    tie.close
-    (tie.spec
-    enum-told
-    enum-told-2
-    enum-known-c
-    enum-known-c-2
-    returns
-    returns-2
-    returns-3
-    returns-4)
+    tie.close (tie.spec enum-told enum-known-c verdict-of-requires returns returns-2)

@@ -1,6 +1,6 @@
 -- `reader::answer::room` meets its contract. Assumes nothing.
 use borrow.Author.Tests.{lt-ltb, le-ltb}
-use Rattle.path.specs.Verbs.{verbLimit}
+use Rattle.path.specs.Limits.{verbLimit}
 use Rattle.reader.proofs.answer.room.Statement.{statement}
 use Rattle.reader.proofs.answer.room.Tie as tie
 

@@ -1,18 +1,22 @@
 -- The options, their ranges, and what the rules use of them. Assumes nothing.
 use Prim.Native.Nat.{ℕ}
-use mathlib.Core.Bool.{Bool, false, _&&_}
+use mathlib.Core.Bool.{Bool, _&&_}
 use lib.Dec.{leb, eqb}
 use lib.Ieee.{Float, le}
-use Rattle.refusals.specs.Numbers.{numberOf, accepted, outOfRange}
+use Rattle.refusals.specs.Numbers.{numberOf, accepted, verdictOf}
+use Rattle.refusals.specs.declared.Refusal.{Refusal}
+use Rattle.refusals.specs.declared.Refusal.the-variants.{OutOfRange}
 use Rattle.plane.specs.F32.{_⊗_, f32}
 use Rattle.plane.specs.Normal.{pick}
 use Rattle.endpoint.specs.declared.LineJoin.{LineJoin}
 use Rattle.endpoint.specs.declared.LineJoin.the-variants.{Miter, MiterClip, Bevel}
-use Rattle.path.specs.declared.options.Options.{Options}
-use Rattle.path.specs.declared.options.Stroke.{Stroke}
-use Rattle.path.specs.declared.options.StrokeAnswer.{StrokeAnswer}
-use Rattle.path.specs.declared.options.Stroked.{Stroked}
-use Rattle.path.specs.declared.options.Stroked.the-variants as stroked
+use Rattle.options.specs.declared.LineCap.{LineCap}
+use Rattle.options.specs.declared.LineCap.the-variants.{Butt, Square}
+use Rattle.options.specs.declared.Options.{Options}
+use Rattle.options.specs.declared.Stroke.{Stroke}
+use Rattle.options.specs.declared.StrokeAnswer.{StrokeAnswer}
+use Rattle.options.specs.declared.Stroked.{Stroked}
+use Rattle.options.specs.declared.Stroked.the-variants as stroked
 
 unfoldable pub within : Float → Float → Float → Bool
 within low x high = le low x && le x high
@@ -39,38 +43,47 @@ capIn n = leb n 1
 unfoldable pub inRange : Options → Bool
 inRange o = widthIn (o .width) && limitIn (o .«miter_limit») && (joinIn (o .«line_join») && capIn (o .cap))
 
+unfoldable pub lineCapOf : ℕ → LineCap
+lineCapOf n = pick (eqb n 0) Butt Square
+
 -- "clip is h for Square and 0 for Butt"
-unfoldable pub clipOf : Bool → Float → Float
-clipOf square h = pick square h (f32 0)
+abbrev pub clipOf : LineCap → Float → Float
+clipOf Butt h = f32 0
+clipOf Square h = h
+
+-- "squared distance .. below 2^-14": the square of 1/128
+abbrev pub nearSquare : Float
+nearSquare = f32 0x38800000
 
 -- "Half width h is width * 0.5."
 unfoldable pub preparedOf : Options → Stroke
 preparedOf o =
     let h = o .width ⊗ f32 0x3f000000 in
-    let square = eqb (o .cap) 1 in
     record {
       «half_width» = h;
       «miter_limit» = o .«miter_limit»;
       «line_join» = lineJoinOf (o .«line_join»);
-      square = square;
-      clip = clipOf square h;
+      cap = lineCapOf (o .cap);
+      clip = clipOf (lineCapOf (o .cap)) h;
+      near = nearSquare;
     }
 
 -- the values of a refusal: zeros, Miter and Butt
 abbrev pub noStroke : Stroke
-noStroke = record { «half_width» = f32 0; «miter_limit» = f32 0; «line_join» = Miter; square = false; clip = f32 0 }
+noStroke = record { «half_width» = f32 0; «miter_limit» = f32 0; «line_join» = Miter; cap = Butt; clip = f32 0; near = f32 0 }
 
--- "0: accepted", and "1: an option outside its range, NaN included", place 0
+-- "0: accepted"
 abbrev pub accepting : Stroke → StrokeAnswer
 accepting s = record { number = numberOf accepted; place = 0; stroke = s }
 
-abbrev pub refusing : StrokeAnswer
-refusing = record { number = numberOf outOfRange; place = 0; stroke = noStroke }
+abbrev pub refusing : Refusal → StrokeAnswer
+refusing r = let a = verdictOf r in record { number = a .number; place = a .place; stroke = noStroke }
 
+-- "1: an option outside its range, NaN included"
 unfoldable pub strokeOf : Options → StrokeAnswer
-strokeOf o = pick (inRange o) (accepting (preparedOf o)) refusing
+strokeOf o = pick (inRange o) (accepting (preparedOf o)) (refusing OutOfRange)
 
 -- what each case of `stroke_of`'s answer stands for
 abbrev pub strokeAnswerOf : Stroked → StrokeAnswer
 strokeAnswerOf (stroked.Stroke s) = accepting s
-strokeAnswerOf stroked.Refused = refusing
+strokeAnswerOf (stroked.Refused r) = refusing r

@@ -1,8 +1,8 @@
--- `path::options::line_join_of` meets its contract. Assumes nothing.
+-- `options::line_join_of` meets its contract. Assumes nothing.
 use borrow.Author.Tests.{ne-eqb}
-use Rattle.path.specs.Options.{lineJoinOf}
-use Rattle.path.proofs.options.line_join_of.Statement.{statement}
-use Rattle.path.proofs.options.line_join_of.Tie as tie
+use Rattle.options.specs.Options.{lineJoinOf}
+use Rattle.options.proofs.line_join_of.Statement.{statement}
+use Rattle.options.proofs.line_join_of.Tie as tie
 
 returns : tie.Need-returns
 unfolding lineJoinOf

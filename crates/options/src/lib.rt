@@ -1,7 +1,10 @@
-// The options of a stroke: as a caller hands them over, and as the rules use them.
+// The options of a stroke, as a caller hands them over and as the rules use them: refusal 1 of document 01.
 use endpoint::LineJoin;
+use refusals::ACCEPTED;
+use refusals::Refusal;
+use refusals::verdict_of;
 ghost use mathlib.Core.Path.{_≡_};
-ghost use Rattle.path.specs.Options.{within, inRange, lineJoinOf, clipOf, preparedOf, noStroke, strokeOf, strokeAnswerOf};
+ghost use Rattle.options.specs.Options.{within, inRange, lineJoinOf, lineCapOf, clipOf, preparedOf, noStroke, strokeOf, strokeAnswerOf};
 
 // What a caller may choose. An option outside its range is refused with 1.
 pub struct Options {
@@ -17,22 +20,28 @@ pub struct Options {
     pub cap: u32,
 }
 
-// What rules 4 to 7 use.
+pub enum LineCap {
+    Butt,
+    Square,
+}
+
+// All that the rules use of the options.
 pub struct Stroke {
     // The rules' h.
     pub half_width: f32,
     pub miter_limit: f32,
     pub line_join: LineJoin,
-    // Whether the cap is Square.
-    pub square: bool,
+    pub cap: LineCap,
     // How far a cap stands out beyond its point.
     pub clip: f32,
+    // Points whose squared distance is below this are near (rule 1).
+    pub near: f32,
 }
 
 // What `stroke_of` says: the options as the rules use them, or refusal 1.
 pub enum Stroked {
     Stroke(Stroke),
-    Refused,
+    Refused(Refusal),
 }
 
 // The same in the terms of document 01's table. A refusal has zeros, Miter and Butt.
@@ -72,25 +81,37 @@ fn line_join_of(number: u32) -> LineJoin
     }
 }
 
-// Rule 7.
-fn clip_of(square: bool, h: f32) -> f32
-    ensures { λ r. ⌜ r ≡ clipOf square h ⌝ }
+fn line_cap_of(number: u32) -> LineCap
+    ensures { λ r. ⌜ r ≡ lineCapOf number ⌝ }
 {
-    if square { h } else { 0.0 }
+    match number {
+        0 => LineCap::Butt,
+        _ => LineCap::Square,
+    }
 }
 
-// What options within their ranges come to.
+// Rule 7.
+fn clip_of(number: u32, h: f32) -> f32
+    ensures { λ r. ⌜ r ≡ clipOf (lineCapOf number) h ⌝ }
+{
+    match line_cap_of(number) {
+        LineCap::Butt => 0.0,
+        LineCap::Square => h,
+    }
+}
+
+// What options within their ranges come to. 2^-14, the square of 1/128, is 0.00006103515625.
 fn prepared(o: Options) -> Stroke
     ensures { λ r. ⌜ r ≡ preparedOf o ⌝ }
 {
     let h = o.width * 0.5;
-    let square = o.cap == 1;
     Stroke {
         half_width: h,
         miter_limit: o.miter_limit,
         line_join: line_join_of(o.line_join),
-        square: square,
-        clip: clip_of(square, h),
+        cap: line_cap_of(o.cap),
+        clip: clip_of(o.cap, h),
+        near: 0.00006103515625,
     }
 }
 
@@ -100,7 +121,7 @@ pub fn stroke_of(o: Options) -> Stroked
     if is_in_range(o) {
         return Stroked::Stroke(prepared(o));
     }
-    Stroked::Refused
+    Stroked::Refused(Refusal::OutOfRange)
 }
 
 fn no_stroke() -> Stroke
@@ -110,8 +131,9 @@ fn no_stroke() -> Stroke
         half_width: 0.0,
         miter_limit: 0.0,
         line_join: LineJoin::Miter,
-        square: false,
+        cap: LineCap::Butt,
         clip: 0.0,
+        near: 0.0,
     }
 }
 
@@ -121,14 +143,17 @@ pub fn stroke_answer_of(s: Stroked) -> StrokeAnswer
 {
     match s {
         Stroked::Stroke(stroke) => StrokeAnswer {
-            number: 0,
+            number: ACCEPTED,
             place: 0,
-            stroke: stroke,
+            stroke,
         },
-        Stroked::Refused => StrokeAnswer {
-            number: 1,
-            place: 0,
-            stroke: no_stroke(),
-        },
+        Stroked::Refused(r) => {
+            let verdict = verdict_of(r);
+            StrokeAnswer {
+                number: verdict.number,
+                place: verdict.place,
+                stroke: no_stroke(),
+            }
+        }
     }
 }

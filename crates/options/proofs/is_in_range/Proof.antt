@@ -1,9 +1,9 @@
--- `path::options::is_in_range` meets its contract. Assumes nothing.
+-- `options::is_in_range` meets its contract. Assumes nothing.
 use borrow.Author.Needs.{needs}
 use borrow.Author.Tests.{not-true, not-false, le-leb, lt-leb}
-use Rattle.path.specs.Options.{inRange}
-use Rattle.path.proofs.options.is_in_range.Statement.{statement}
-use Rattle.path.proofs.options.is_in_range.Tie as tie
+use Rattle.options.specs.Options.{inRange}
+use Rattle.options.proofs.is_in_range.Statement.{statement}
+use Rattle.options.proofs.is_in_range.Tie as tie
 
 is-within-requires : tie.Need-is-within-requires
 is-within-requires c κs = search needs

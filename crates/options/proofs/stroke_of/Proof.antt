@@ -1,8 +1,8 @@
--- `path::options::stroke_of` meets its contract. Assumes nothing.
+-- `options::stroke_of` meets its contract. Assumes nothing.
 use borrow.Author.Needs.{needs}
-use Rattle.path.specs.Options.{strokeOf}
-use Rattle.path.proofs.options.stroke_of.Statement.{statement}
-use Rattle.path.proofs.options.stroke_of.Tie as tie
+use Rattle.options.specs.Options.{strokeOf}
+use Rattle.options.proofs.stroke_of.Statement.{statement}
+use Rattle.options.proofs.stroke_of.Tie as tie
 
 is-in-range-requires : tie.Need-is-in-range-requires
 is-in-range-requires c κs = search needs

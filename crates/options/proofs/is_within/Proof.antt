@@ -1,7 +1,7 @@
--- `path::options::is_within` meets its contract. Assumes nothing.
-use Rattle.path.specs.Options.{within}
-use Rattle.path.proofs.options.is_within.Statement.{statement}
-use Rattle.path.proofs.options.is_within.Tie as tie
+-- `options::is_within` meets its contract. Assumes nothing.
+use Rattle.options.specs.Options.{within}
+use Rattle.options.proofs.is_within.Statement.{statement}
+use Rattle.options.proofs.is_within.Tie as tie
 
 returns : tie.Need-returns
 unfolding within

@@ -1,0 +1,45 @@
+-- Closed examples, computed by the checker over `strokeOf`: one statement over one list. Assumes nothing.
+use mathlib.Core.Path.{_≡_, refl}
+use mathlib.Core.Bool.{Bool, true, _&&_}
+use mathlib.Core.List.{List, [], _∷_}
+use Prim.Native.Nat.{ℕ}
+use lib.Dec.{eqb}
+use lib.Ieee.{binary32, mul, lt, eq, le, ofBits, toBits}
+use Rattle.plane.specs.F32.{f32}
+use Rattle.options.specs.Options.{within, inRange, lineJoinOf, lineCapOf, preparedOf, strokeOf}
+use Rattle.options.specs.declared.Options.{Options}
+
+pub data Case : Type 0 where
+  -- the patterns of width and miter limit, join and cap; then the number, and the patterns of half width and clip
+  stroke : ℕ → ℕ → ℕ → ℕ → ℕ → ℕ → ℕ → Case
+
+abbrev options : ℕ → ℕ → ℕ → ℕ → Options
+options w m j c = record { width = f32 w; «miter_limit» = f32 m; «line_join» = j; cap = c }
+
+says : Case → Bool
+says (stroke w m j c number h clip) =
+    let a = strokeOf (options w m j c) in
+    eqb (a .number) number && eqb (a .place) 0 && (eqb (toBits binary32 (a .stroke .«half_width»)) h && eqb (toBits binary32 (a .stroke .clip)) clip)
+
+pub every : List Case → Bool
+every [] = true
+every (c ∷ cs) = says c && every cs
+
+pub cases : List Case
+cases =
+    -- width 2 and limit 4, with Butt and with Square
+    stroke 0x40000000 0x40800000 0 0 0 0x3f800000 0 ∷ stroke 0x40000000 0x40800000 2 1 0 0x3f800000 0x3f800000
+    -- width 1/256 and the f32 below it, 16,384 and the next; a NaN
+    ∷ stroke 0x3b800000 0x40800000 0 1 0 0x3b000000 0x3b000000 ∷ stroke 0x3b7fffff 0x40800000 0 1 1 0 0
+    ∷ stroke 0x46800000 0x40800000 0 1 0 0x46000000 0x46000000 ∷ stroke 0x46800001 0x40800000 0 1 1 0 0
+    ∷ stroke 0x7fc00000 0x40800000 0 1 1 0 0
+    -- limit 1 and the f32 below it, 1,024 and the next; a NaN
+    ∷ stroke 0x40000000 0x3f800000 1 0 0 0x3f800000 0 ∷ stroke 0x40000000 0x3f7fffff 1 0 1 0 0
+    ∷ stroke 0x40000000 0x44800000 1 0 0 0x3f800000 0 ∷ stroke 0x40000000 0x44800001 1 0 1 0 0
+    ∷ stroke 0x40000000 0x7fc00000 1 0 1 0 0
+    -- no such join, no such cap
+    ∷ stroke 0x40000000 0x40800000 3 0 1 0 0 ∷ stroke 0x40000000 0x40800000 0 2 1 0 0 ∷ []
+
+pub worked : every cases ≡ true
+unfolding every says cases strokeOf inRange within lineJoinOf lineCapOf preparedOf mul lt eq le ofBits toBits
+worked = refl

@@ -1,0 +1,2 @@
+-- The proofs of the options; `Examples` are computed.
+pub mod Examples
