@@ -1,0 +1,8 @@
+-- For the layers above: `Indexed` (endpoints by their index), `Looks` (what the looks say of the kept points), `Lengths` (how many are kept), `Keeping` (what
+-- kept points have) and `All` (its words for lists); `Further` is below these.
+pub mod Indexed
+pub mod Looks
+pub mod Lengths
+pub mod Keeping
+pub mod All
+pub mod Further

@@ -1,0 +1,75 @@
+-- `kept::first_far` meets its contract. Assumes nothing.
+use borrow.Author.Needs.{needs}
+use Prim.Native.Nat.{_+_, _-_, _*_, _/_, _≤_}
+use mathlib.Core.Path.{_≡_, refl, sym, _∙_}
+use native.Mathlib.Omega.{arith}
+use borrow.Author.Tests.{not-true, not-false}
+use lib.ListN.{length, drop}
+use Rattle.kept.specs.Kept.{near, keptBehind}
+use Rattle.kept.specs.Points.{endpointsOf, endpointAt}
+use Rattle.kept.proofs.Indexed.{points-at}
+use Rattle.kept.proofs.Further.{keep-near}
+use Rattle.kept.proofs.first_far.Statement.{statement}
+use Rattle.kept.proofs.first_far.Tie as tie
+
+abbrev Inv-loop : tie.InvT-loop
+Inv-loop limit p first p0 end i₀ i = (1 ≤ i) × (i ≤ length p / 2) × (keptBehind limit (endpointAt p (first .0) 0) (drop 1 (endpointsOf (first .0) p)) ≡ keptBehind limit (endpointAt p (first .0) 0) (drop i (endpointsOf (first .0) p)))
+
+abbrev μ-loop : tie.MeasureT-loop
+μ-loop limit p first p0 end i₀ i = end - i
+
+endpoint-at-requires : tie.Need-endpoint-at-requires Inv-loop μ-loop
+endpoint-at-requires c κs = omega (arith, c .before .pre)
+
+loop-holds : tie.Need-loop-holds Inv-loop μ-loop
+loop-holds c = (omega arith, omega (arith, c .before .before .pre), refl)
+
+endpoint-at-requires-2 : tie.Need-endpoint-at-requires-2 Inv-loop μ-loop
+endpoint-at-requires-2 c κs = search needs
+
+is-near-requires : tie.Need-is-near-requires Inv-loop μ-loop
+is-near-requires c κs = search needs
+
+returns : tie.Need-returns Inv-loop μ-loop
+returns c =
+    let l = c .before .before .before .before .loop in
+    let start = c .before .before .before .before .before .before .before in
+    let e : near (start .args .limit) (endpointAt (start .args .p .now) (start .args .first .0) 0) (endpointAt (start .args .p .now) (start .args .first .0) (l .i)) ≡ _ = rw (c .before .before .endpoint-at2 .ensures, c .before .before .before .before .before .endpoint-at .ensures) at (sym (c .before .is-near .ensures)) in
+    record { least = l .inv .0; within = l .inv .1; kept = l .inv .2; far = λ h. e ∙ not-true _ (c .if1 .taken) }
+
+add-i : tie.Need-add-i Inv-loop μ-loop
+add-i c = search needs
+
+loop-less : tie.Need-loop-less Inv-loop μ-loop
+loop-less c = search needs
+
+loop-again : tie.Need-loop-again Inv-loop μ-loop
+loop-again c =
+    let l = c .before .before .before .before .loop in
+    let start = c .before .before .before .before .before .before .before in
+    let p = start .args .p .now in
+    let first = start .args .first .0 in
+    let h : 2 * l .i + 2 ≤ length p = omega (arith, c .before .before .before .loop-test .taken) in
+    let e : near (start .args .limit) (endpointAt p first 0) (endpointAt p first (l .i)) ≡ _ = rw (c .before .before .endpoint-at2 .ensures, c .before .before .before .before .before .endpoint-at .ensures) at (sym (c .before .is-near .ensures)) in
+    (omega arith, omega (arith, c .before .before .before .loop-test .taken), l .inv .2 ∙ rw (points-at p first (l .i) h) (keep-near _ _ _ _ (e ∙ not-false _ (c .if1 .left))))
+
+returns-2 : tie.Need-returns-2 Inv-loop μ-loop
+returns-2 c =
+    let l = c .before .loop in
+    record { least = l .inv .0; within = l .inv .1; kept = l .inv .2; far = λ h. absurd (omega (arith, c .loop-test .left)) }
+
+pub first-far-spec : {M : Type 1} → statement M
+first-far-spec =
+    tie.close
+    (tie.spec
+    Inv-loop
+    μ-loop
+    endpoint-at-requires
+    loop-holds
+    endpoint-at-requires-2
+    is-near-requires
+    returns
+    add-i
+    loop-less
+    loop-again
+    returns-2)

@@ -1,4 +1,0 @@
--- For the layers above: `Indexed` and `Laws`.
-pub mod Indexed
-pub mod Keeping
-pub mod Laws
