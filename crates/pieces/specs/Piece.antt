@@ -6,6 +6,7 @@ use mathlib.Core.Bool.{Bool, true}
 use mathlib.Core.List.{List, [], _∷_, _++_}
 use lib.Ieee.{Float}
 use lib.ListN.{length}
+use Rattle.endpoint.specs.declared.VertexId.{VertexId}
 use Rattle.lists.specs.Over.{putAt, flat}
 use Rattle.triangles.specs.Tri.{Tri, numbersOf}
 use Rattle.pieces.specs.Limits.{numberLimit}
@@ -48,9 +49,13 @@ behind k p = record { base = k .base; vertices = k .vertices + length (p .vertic
 abbrev pub nextVertex : Place → ℕ
 nextVertex k = k .base .0 + k .vertices
 
+-- the start of the lists that are lent, whose first vertex has the number base
+abbrev pub from : VertexId → Place
+from base = record { base = base; vertices = 0; triangles = 0 }
+
 -- Where lists are lent anew, from a place on: their first vertex is that place's next.
 abbrev pub anew : Place → Place
-anew k = record { base = record { 0 = nextVertex k }; vertices = 0; triangles = 0 }
+anew k = from (record { 0 = nextVertex k })
 
 -- the lists that are lent
 pub record Lists : Type 0 where

@@ -3,7 +3,7 @@ use endpoint::VertexId;
 use endpoint::vertex_after;
 ghost use mathlib.Core.Path.{_≡_};
 ghost use Prim.Native.Nat.{_<_};
-ghost use Rattle.endpoint.specs.Endpoint.{vertexAfter};
+ghost use Rattle.endpoint.specs.Endpoint.{idLimit, vertexAfter};
 ghost use Rattle.pieces.specs.Piece.{nextVertex};
 
 // "three u16 to a triangle": what a number in the triangle list is held in.
@@ -19,7 +19,7 @@ pub struct Place {
 
 // The number that the next vertex has.
 pub fn next_vertex(k: Place) -> VertexId
-    requires { ⌜ nextVertex k < 4294967296 ⌝ }
+    requires { ⌜ nextVertex k < idLimit ⌝ }
     ensures { λ r. ⌜ r ≡ vertexAfter (k .base) (k .vertices) ⌝ }
 {
     vertex_after(k.base, k.vertices)

@@ -1,4 +1,5 @@
--- Passes over joints one after another, from what `lists` says of pieces. Assumes nothing.
+-- Passes over joints one after another, from what `pieces` says of pieces: what the first and the second need of both, and what they do together; then a pass
+-- that is part of the way (`Midway`), from its start to its end. Assumes nothing.
 use mathlib.Core.Path.{_≡_, refl, sym, ap, _∙_}
 use mathlib.Core.Bool.{Bool}
 use mathlib.Core.List.{List, [], _++_, append-assoc, append-nil}

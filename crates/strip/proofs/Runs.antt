@@ -1,16 +1,17 @@
--- The strip by steps is the strip by sections: what rule 9 says of a run's sections is what its joints' steps write. Assumes nothing.
-use Prim.Native.Nat.{_+_}
-use mathlib.Core.Path.{_≡_, refl, sym, _∙_}
+-- The strip by steps is the strip by sections: what rule 9 says of a run's sections is what its joints' steps write. The plan: `strip-steps` goes joint by joint
+-- on from a run that has begun; `triangles-from` begins it and, in a closed run, goes round to its first section. Assumes nothing.
+use Prim.Native.Nat.{ℕ, _+_}
+use native.Mathlib.Omega.{arith}
+use mathlib.Core.Path.{_≡_, refl, sym, ap, _∙_}
 use mathlib.Core.Bool.{Bool, true, false, cond}
 use mathlib.Core.List.{List, [], _∷_, _++_, append-assoc, append-nil}
 use Rattle.endpoint.specs.declared.EndpointData.{EndpointData}
+use Rattle.endpoint.specs.declared.VertexId.{VertexId}
 use Rattle.strip.specs.declared.Strip.{Strip}
 use Rattle.strip.specs.declared.section.Section.{Section}
 use Rattle.strip.specs.Joint.{jointCount}
 use Rattle.strip.specs.Section.{sectionOf, beforeOf, afterOf, sections}
 use Rattle.triangles.specs.Tri.{Tri}
-use Rattle.pieces.specs.Piece.{nextVertex}
-use Rattle.pieces.specs.declared.Place.{Place}
 use Rattle.strip.specs.Triangle.{between, past, stripOf, through, trianglesOf}
 use Rattle.strip.specs.Strip.{startOf, nextOf, stepTriangles, stepOf, stepsOf, trianglesFrom}
 use Rattle.strip.proofs.Triangles.{between-same}
@@ -61,29 +62,34 @@ strip-steps s (j ∷ js) zs b =
     strip-two (s .last) (beforeOf base j) (afterOf base j) rest ∙ rw (step-begun s j b, e) (sym (append-assoc (stepTriangles s j) (trianglesFrom (stepOf s j) js) on))
 
 -- the step that begins a run
-start-triangles : (k : Place) (j : EndpointData) → stepTriangles (startOf k) j ≡ between (beforeOf (nextVertex k) j) (afterOf (nextVertex k) j)
+start-triangles : (base : VertexId) (j : EndpointData) → stepTriangles (startOf base) j ≡ between (beforeOf (nextOf (startOf base)) j) (afterOf (nextOf (startOf base)) j)
 unfolding stepTriangles
-start-triangles k j = rw (between-same (beforeOf (nextVertex k) j))
+start-triangles base j = rw (between-same (beforeOf (nextOf (startOf base)) j))
 
-start-sections : (k : Place) (j : EndpointData) → (stepOf (startOf k) j .first ≡ beforeOf (nextVertex k) j) × (stepOf (startOf k) j .last ≡ afterOf (nextVertex k) j)
+start-sections : (base : VertexId) (j : EndpointData)
+    → (stepOf (startOf base) j .first ≡ beforeOf (nextOf (startOf base)) j) × (stepOf (startOf base) j .last ≡ afterOf (nextOf (startOf base)) j)
 unfolding stepOf
-start-sections k j = (refl, refl)
+start-sections base j = (refl, refl)
 
 -- a run's triangles are those of its steps, and in a closed run those round to the first section
-pub triangles-are : (closed : Bool) (k : Place) (js : List EndpointData)
-    → trianglesOf closed (nextVertex k) js ≡ trianglesFrom (startOf k) js ++ cond closed (between (stepsOf (startOf k) js .last) (stepsOf (startOf k) js .first)) []
+triangles-from : (closed : Bool) (base : VertexId) (js : List EndpointData)
+    → trianglesOf closed (nextOf (startOf base)) js ≡ trianglesFrom (startOf base) js ++ cond closed (between (stepsOf (startOf base) js .last) (stepsOf (startOf base) js .first)) []
 unfolding through sections trianglesFrom stepsOf
-triangles-are true k [] = sym (between-same (sectionOf 0 0))
-triangles-are false k [] = refl
-triangles-are closed k (j ∷ js) =
-    let s = stepOf (startOf k) j in
-    let b = beforeOf (nextVertex k) j in
-    let a = afterOf (nextVertex k) j in
+triangles-from true base [] = sym (between-same (sectionOf 0 0))
+triangles-from false base [] = refl
+triangles-from closed base (j ∷ js) =
+    let s = stepOf (startOf base) j in
+    let b = beforeOf (nextOf (startOf base)) j in
+    let a = afterOf (nextOf (startOf base)) j in
     let zs : List Section = cond closed (b ∷ []) [] in
-    let n : nextVertex k + jointCount j ≡ nextOf s = sym (step-next (startOf k) j) in
-    let f : stepsOf s js .first ≡ b = steps-first s js (step-begins (startOf k) j) ∙ start-sections k j .0 in
+    let n : nextOf (startOf base) + jointCount j ≡ nextOf s = sym (step-next (startOf base) j) in
+    let f : stepsOf s js .first ≡ b = steps-first s js (step-begins (startOf base) j) ∙ start-sections base j .0 in
     let l = stepsOf s js .last in
-    let e : stripOf a (sections (nextVertex k + jointCount j) js ++ zs) ≡ trianglesFrom s js ++ stripOf l zs =
-    rw (n, ← start-sections k j .1) (strip-steps s js zs (step-begins (startOf k) j)) in
-    strip-next b a (sections (nextVertex k + jointCount j) js ++ zs)
-    ∙ rw (e, strip-home closed b l, f, start-triangles k j) (sym (append-assoc (between b a) (trianglesFrom s js) (cond closed (between l b) [])))
+    let e : stripOf a (sections (nextOf (startOf base) + jointCount j) js ++ zs) ≡ trianglesFrom s js ++ stripOf l zs =
+    rw (n, ← start-sections base j .1) (strip-steps s js zs (step-begins (startOf base) j)) in
+    strip-next b a (sections (nextOf (startOf base) + jointCount j) js ++ zs)
+    ∙ rw (e, strip-home closed b l, f, start-triangles base j) (sym (append-assoc (between b a) (trianglesFrom s js) (cond closed (between l b) [])))
+
+pub triangles-are : (closed : Bool) (base : VertexId) (js : List EndpointData)
+    → trianglesOf closed (base .0) js ≡ trianglesFrom (startOf base) js ++ cond closed (between (stepsOf (startOf base) js .last) (stepsOf (startOf base) js .first)) []
+triangles-are closed base js = let z : base .0 ≡ nextOf (startOf base) = omega arith in ap (λ (n : ℕ). trianglesOf closed n js) z ∙ triangles-from closed base js

@@ -1,4 +1,5 @@
--- Laws of the state's steps: what they count, that a u16 holds their numbers, and joints one behind the other. Assumes nothing.
+-- Laws of the state's steps, in this order: joints one behind the other, where a step comes to, and that a u16 holds the numbers of a state (`Sound`), from the
+-- start of a run over all its joints. Assumes nothing.
 use Prim.Native.Nat.{ℕ, _+_, _<_}
 use mathlib.Core.Path.{_≡_, refl, sym, _∙_}
 use mathlib.Core.Bool.{Bool, true, false, cond, true≢false}
@@ -6,15 +7,15 @@ use mathlib.Core.List.{List, [], _∷_, _++_, append-assoc}
 use native.Mathlib.Omega.{arith}
 use lib.ListN.{length}
 use Rattle.endpoint.specs.declared.EndpointData.{EndpointData}
+use Rattle.endpoint.specs.declared.VertexId.{VertexId}
 use Rattle.strip.specs.declared.Strip.{Strip}
 use Rattle.strip.specs.declared.section.Section.{Section}
 use Rattle.strip.specs.Joint.{jointCount, verticesOf}
 use Rattle.strip.specs.Section.{beforeOf, afterOf, Narrow}
 use Rattle.strip.specs.Strip.{startOf, nextOf, stepPiece, stepOf, stepsOf, trianglesFrom, pieceOf, Behind, Sound}
-use Rattle.strip.proofs.Joints.{side-few, length-joint, vertices-append, length-more}
+use Rattle.strip.proofs.Joints.{joint-few, length-joint, vertices-append, length-more}
 use Rattle.pieces.specs.Limits.{numberLimit}
 use Rattle.pieces.specs.Piece.{joined, behind}
-use Rattle.pieces.specs.declared.Place.{Place}
 use Rattle.pieces.proofs.Pieces.{joined-none, behind-none, behind-joined}
 
 pub triangles-append : (s : Strip) (xs ys : List EndpointData) → trianglesFrom s (xs ++ ys) ≡ trianglesFrom s xs ++ trianglesFrom (stepsOf s xs) ys
@@ -49,25 +50,17 @@ narrow-choice true a b h g = h
 narrow-choice false a b h g = g
 
 pub narrow-before : (base : ℕ) (j : EndpointData) → base + jointCount j < numberLimit → Narrow (beforeOf base j)
-narrow-before base j h = record { n = omega arith; p = omega arith }
+narrow-before base j h = omega arith
 
 pub narrow-after : (base : ℕ) (j : EndpointData) → base + jointCount j < numberLimit → Narrow (afterOf base j)
-narrow-after base j h = record { n = omega arith; p = omega arith }
+narrow-after base j h = omega arith
 
 behind-step : (s : Strip) (j : EndpointData) → Behind (stepOf s j)
 unfolding stepOf
-behind-step s j =
-    let l = length-joint j in
-    let p = side-few (j .positive) in
-    let n = side-few (j .negative) in
-    record { negative = omega arith; positive = omega arith; apart = λ z. omega arith }
+behind-step s j = omega (arith, length-joint j, joint-few j)
 
-pub sound-start : (k : Place) → Sound (startOf k)
-sound-start k = record {
-  first = record { n = omega arith; p = omega arith };
-  last = record { n = omega arith; p = omega arith };
-  behind = λ b. absurd (true≢false (sym b));
-}
+pub sound-start : (base : VertexId) → Sound (startOf base)
+sound-start base = record { first = omega arith; last = omega arith; behind = λ b. absurd (true≢false (sym b)) }
 
 sound-step : (s : Strip) (j : EndpointData) → Sound s → nextOf s + jointCount j < numberLimit → Sound (stepOf s j)
 unfolding stepOf

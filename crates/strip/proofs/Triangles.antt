@@ -1,16 +1,13 @@
 -- Laws of triangles: when one is left out, and those between two sections. Assumes nothing.
-use Prim.Native.Nat.{ℕ, _+_, _≤_}
+use Prim.Native.Nat.{ℕ}
 use mathlib.Core.Path.{_≡_, refl}
 use mathlib.Core.Bool.{Bool, true, false, not, cond}
 use mathlib.Core.List.{[], _∷_}
 use mathlib.Core.Logic.{_≢_}
-use native.Mathlib.Omega.{arith}
 use borrow.Author.Tests.{eq-eqb, ne-eqb}
 use lib.Dec.{eqb}
-use lib.ListN.{length, length-append}
 use Rattle.strip.specs.declared.section.Section.{Section}
-use Rattle.triangles.specs.Tri.{Tri}
-use Rattle.strip.specs.Triangle.{different, triOf, onPositive, onNegative, between}
+use Rattle.strip.specs.Triangle.{different, triOf, between}
 
 -- a triangle of three different numbers stands
 pub tri-some : (a b c : ℕ) → different a b c ≡ true → triOf a b c ≡ record { a = a; b = b; c = c } ∷ []
@@ -42,25 +39,6 @@ tri-ends a b = tri-none a b a (go (eqb a b) (eqb b a))
     go true u = refl
     go false true = refl
     go false false = rw (eq-eqb a a refl)
-
-tri-few : (a b c : ℕ) → length (triOf a b c) ≤ 1
-unfolding triOf
-tri-few a b c = go (different a b c)
-  where
-    go : (t : Bool) → length {A = Tri} (cond t (record { a = a; b = b; c = c } ∷ []) []) ≤ 1
-    go true = omega arith
-    go false = omega arith
-
-module _ (s e : Section) where
-  pub length-between : length (between s e) ≡ length (onPositive s e) + length (onNegative s e)
-  unfolding between
-  length-between = length-append (onPositive s e) (onNegative s e)
-
-  pub sides-few : (length (onPositive s e) ≤ 1) × (length (onNegative s e) ≤ 1)
-  sides-few = (tri-few (s .negative .0) (s .positive .0) (e .positive .0), tri-few (s .negative .0) (e .positive .0) (e .negative .0))
-
-  pub between-few : length (between s e) ≤ 2
-  between-few = omega (arith, length-between, sides-few)
 
 pub between-same : (s : Section) → between s s ≡ []
 unfolding between

@@ -1,4 +1,5 @@
--- What this crate's writers do: two lists of triangles one behind the other, and a joint behind what the state counts. Assumes nothing.
+-- What this crate's writers do. The plan: two lists one behind the other are one list (`spelt-behind`, and `two-writers` of triangles); a joint behind what the
+-- state counts has room for its vertices and for the triangles past its `Sections`, and both are laid (`joint-laid`). Assumes nothing.
 use Prim.Native.Nat.{ℕ, _+_, _-_, _*_, _<_, _≤_}
 use mathlib.Core.Path.{_≡_, refl, sym, ap, _∙_}
 use mathlib.Core.Bool.{true, cond}
@@ -9,12 +10,12 @@ use lib.Ieee.{Float}
 use lib.ListN.{length, length-append}
 use Rattle.endpoint.specs.declared.EndpointData.{EndpointData}
 use Rattle.pieces.specs.Limits.{numberLimit}
-use Rattle.lists.specs.Over.{over}
+use Rattle.lists.specs.Over.{over, flat}
 use Rattle.pieces.specs.Piece.{Piece, flatV, flatT, lent, laid, Fits}
 use Rattle.triangles.specs.Tri.{Tri, numbersOf}
-use Rattle.lists.proofs.Laws.{flat-append}
+use Rattle.lists.proofs.Laws.{flat-append, length-flat}
 use Rattle.lists.proofs.Parts.{behind}
-use Rattle.pieces.proofs.Pieces.{length-flatT, laid-parts}
+use Rattle.pieces.proofs.Pieces.{laid-parts}
 use Rattle.strip.specs.declared.Strip.{Strip}
 use Rattle.strip.specs.declared.section.Section.{Section}
 use Rattle.strip.specs.Joint.{jointCount, jointVerticesOf}
@@ -24,14 +25,19 @@ use Rattle.strip.specs.Strip.{nextOf, stepTriangles, stepPiece, pieceOf,
 use Rattle.strip.proofs.Joints.{length-joint}
 use Rattle.strip.proofs.Steps.{piece-one, narrow-choice, narrow-before, narrow-after}
 
--- the triangles xs, and the triangles ys in the part behind them: their number, and the list
+-- xs and, in the part behind them, ys, each element spelt by n
+module _ {A B : Type 0} (f : A → List B) (n : ℕ) (size : (x : A) → length (f x) ≡ n) where
+  pub spelt-behind : (xs ys : List A) (m : ℕ) (t t' t2 : List B) → n * length xs ≤ length t → m ≡ length xs → t' ≡ over (flat f xs) t
+      → t2 ≡ over (flat f ys) (midOf (n * m) (length t' - n * m) t') → putMid (n * m) (length t' - n * m) t' t2 ≡ over (flat f (xs ++ ys)) t
+  spelt-behind xs ys m t t' t2 h em et eu = rw (flat-append f xs ys) (behind t t' t2 (flat f xs) (flat f ys) (n * m) (rw em (length-flat f n size xs)) (rw em h) et eu)
+
+-- triangles, with their number
 pub two-writers : (xs ys : List Tri) (m l : ℕ) (t t' t2 : List ℕ) → 3 * length (xs ++ ys) ≤ length t → m ≡ length xs → t' ≡ over (flatT xs) t
     → l ≡ length ys → t2 ≡ over (flatT ys) (midOf (3 * m) (length t' - 3 * m) t')
     → (m + l ≡ length (xs ++ ys)) × (putMid (3 * m) (length t' - 3 * m) t' t2 ≡ over (flatT (xs ++ ys)) t)
 two-writers xs ys m l t t' t2 h em et el eu =
     let n = length-append xs ys in
-    let many : length (flatT xs) ≡ 3 * m = rw em (length-flatT xs) in
-    (omega arith, rw (flat-append numbersOf xs ys) (behind t t' t2 (flatT xs) (flatT ys) (3 * m) many (omega arith) et eu))
+    (omega arith, spelt-behind numbersOf 3 (λ x. refl) xs ys m t t' t2 (omega arith) em et eu)
 
 -- the joint j after the state s: b and a are its sections, l is the last section before it
 pub record Sections (s : Strip) (j : EndpointData) (l b a : Section) : Type 0 where

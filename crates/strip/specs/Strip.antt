@@ -5,10 +5,10 @@ use mathlib.Core.Bool.{Bool, true, false, cond}
 use mathlib.Core.List.{List, [], _∷_, _++_}
 use mathlib.Core.Logic.{_≢_}
 use Rattle.endpoint.specs.declared.EndpointData.{EndpointData}
+use Rattle.endpoint.specs.declared.VertexId.{VertexId}
 use Rattle.pieces.specs.Limits.{numberLimit}
-use Rattle.pieces.specs.Piece.{nextVertex, Piece, Lists, behind, Fits, Lays}
+use Rattle.pieces.specs.Piece.{nextVertex, Piece, Lists, from, behind, Fits, Lays}
 use Rattle.triangles.specs.Tri.{Tri}
-use Rattle.pieces.specs.declared.Place.{Place}
 use Rattle.strip.specs.declared.Strip.{Strip}
 use Rattle.strip.specs.declared.section.Section.{Section}
 use Rattle.strip.specs.Joint.{jointVerticesOf, verticesOf}
@@ -16,8 +16,8 @@ use Rattle.strip.specs.Section.{sectionOf, beforeOf, afterOf, Narrow}
 use Rattle.strip.specs.Triangle.{past}
 
 -- "Vertex numbers go on over all runs": a run starts where the last ended
-abbrev pub startOf : Place → Strip
-startOf k = record { place = k; begun = false; first = sectionOf 0 0; last = sectionOf 0 0 }
+abbrev pub startOf : VertexId → Strip
+startOf base = record { place = from base; begun = false; first = sectionOf 0 0; last = sectionOf 0 0 }
 
 -- the number of the next vertex
 abbrev pub nextOf : Strip → ℕ

@@ -37,16 +37,20 @@ pub struct Strip {
     pub last: Section,
 }
 
-// A run that is written from a place on; its vertices are numbered from there.
-pub fn start(place: Place) -> Strip
-    ensures { λ r. ⌜ r ≡ startOf place ⌝ }
+// A run that is written from the start of the lists on; its vertices are numbered from base.
+pub fn start(base: VertexId) -> Strip
+    ensures { λ r. ⌜ r ≡ startOf base ⌝ }
 {
     let none = Section {
         negative: VertexId(0),
         positive: VertexId(0),
     };
     Strip {
-        place,
+        place: Place {
+            base,
+            vertices: 0,
+            triangles: 0,
+        },
         begun: false,
         first: none,
         last: none,

@@ -6,10 +6,9 @@ use mathlib.Core.List.{List, [], _∷_}
 use native.Mathlib.Omega.{arith}
 use lib.ListN.{length, length-append}
 use Rattle.endpoint.specs.declared.EndpointData.{EndpointData}
-use Rattle.strip.specs.Joint.{pairSides}
-use Rattle.strip.specs.Joint.{jointCount, vertexCount}
+use Rattle.strip.specs.Joint.{jointCount, vertexCount, pairSides}
 use Rattle.strip.specs.Triangle.{trianglesOf}
-use Rattle.strip.proofs.Joints.{side-few, count-more}
+use Rattle.strip.proofs.Joints.{joint-few, count-more}
 use Rattle.strip.proofs.Facts.Ladder.{length-ladder, length-inner}
 use Rattle.strip.proofs.Facts.Moves.{movesOf, open-moves, closed-moves}
 
@@ -17,10 +16,7 @@ use Rattle.strip.proofs.Facts.Moves.{movesOf, open-moves, closed-moves}
 pub vertices-are : (js : List EndpointData) → vertexCount js ≡ 2 * length js + pairSides js
 unfolding vertexCount pairSides
 vertices-are [] = refl
-vertices-are (j ∷ js) =
-    let p = side-few (j .positive) in
-    let n = side-few (j .negative) in
-    omega (arith, vertices-are js)
+vertices-are (j ∷ js) = omega (arith, joint-few j, vertices-are js)
 
 length-moves : (base : ℕ) (js : List EndpointData) → length (movesOf base js) ≡ vertexCount js
 unfolding movesOf vertexCount

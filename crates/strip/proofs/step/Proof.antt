@@ -9,49 +9,38 @@ next-vertex-requires : tie.Need-next-vertex-requires
 next-vertex-requires c κs = omega (arith, c .before .before .pre .numbers)
 
 add-n : tie.Need-add-n
-add-n c = omega (arith, c .before .before .before .pre .positive, c .before .before .before .pre .negative)
+add-n c = search needs
 
 vertex-after-requires : tie.Need-vertex-after-requires
-vertex-after-requires c κs = rw (c .next-vertex .ensures) (omega (arith, c .before .before .before .pre .numbers))
+vertex-after-requires c κs = rw (c .next-vertex .ensures) (omega arith)
 
 add-t10 : tie.Need-add-t10
-add-t10 c = omega (arith, c .before .before .before .before .before .pre .numbers)
+add-t10 c = search needs
 
 more-triangles-requires : tie.Need-more-triangles-requires
-more-triangles-requires c κs =
-    let entry = c .before .before .before .before .before in
-    (entry .pre .faces, omega (arith, entry .pre .positive, entry .pre .negative), omega (arith, entry .pre .positive, entry .pre .negative))
+more-triangles-requires c κs = search needs
 
 choose-requires : tie.Need-choose-requires
 choose-requires c κs = search needs
 
 sub-vertex-after : tie.Need-sub-vertex-after
-sub-vertex-after c = omega (arith, c .before .before .before .before .before .before .before .pre .positive)
+sub-vertex-after c = search needs
 
 vertex-after-requires-2 : tie.Need-vertex-after-requires-2
-vertex-after-requires-2 c κs =
-    let at-next-vertex = c .before .before .before .before in
-    let entry = at-next-vertex .before .before .before in
-    rw (at-next-vertex .next-vertex .ensures) (omega (arith, entry .pre .numbers, entry .pre .positive))
+vertex-after-requires-2 c κs = let n = c .before .before .before .before in rw (n .next-vertex .ensures) (omega (arith, n .before .before .before .pre))
 
 sub-vertex-after-2 : tie.Need-sub-vertex-after-2
-sub-vertex-after-2 c = omega (arith, c .before .before .before .before .before .before .before .before .pre .positive)
+sub-vertex-after-2 c = search needs
 
 vertex-after-requires-3 : tie.Need-vertex-after-requires-3
-vertex-after-requires-3 c κs =
-    let at-next-vertex = c .before .before .before .before .before in
-    let entry = at-next-vertex .before .before .before in
-    rw (at-next-vertex .next-vertex .ensures) (omega (arith, entry .pre .numbers, entry .pre .positive))
+vertex-after-requires-3 c κs = let n = c .before .before .before .before .before in rw (n .next-vertex .ensures) (omega (arith, n .before .before .before .pre))
 
 returns : tie.Need-returns
 unfolding steppedOf
 returns c =
-    let at-vertex-after2 = c .before in
-    let at-choose = at-vertex-after2 .before in
-    let at-more-triangles = at-choose .before in
-    let at-vertex-after = at-more-triangles .before .before in
-    let at-next-vertex = at-vertex-after .before in
-    rw (c .vertex-after3 .ensures, at-vertex-after2 .vertex-after2 .ensures, at-choose .choose .ensures, at-more-triangles .more-triangles .ensures, at-vertex-after .vertex-after .ensures, at-next-vertex .next-vertex .ensures)
+    let more = c .before .before .before in
+    let after = more .before .before in
+    rw (c .vertex-after3 .ensures, c .before .vertex-after2 .ensures, c .before .before .choose .ensures, more .more-triangles .ensures, after .vertex-after .ensures, after .before .next-vertex .ensures)
 
 pub step-spec : {M : Type 1} → statement M
 step-spec =

@@ -1,15 +1,12 @@
--- `strip::joint::write_vertices` meets its contract. Assumes nothing.
-use Prim.Native.Nat.{_*_, _≤_}
-use mathlib.Core.Path.{_≡_}
+-- `strip::joint::write_vertices` meets its contract. The plan: the positive side's vertices at the start, the negative side's in the part behind them, whose place
+-- the count gives: Writing's `spelt-behind`. Assumes nothing.
+use mathlib.Core.Path.{refl, sym, _∙_}
 use native.Mathlib.Omega.{arith}
-use lib.ListN.{length}
-use Rattle.pieces.specs.Piece.{flatV, floatsOf}
-use Rattle.lists.proofs.Laws.{flat-append}
-use Rattle.lists.proofs.Parts.{behind}
-use Rattle.pieces.proofs.Pieces.{length-flatV}
+use Rattle.pieces.specs.Piece.{floatsOf}
 use Rattle.vertices.specs.Base.{sideVerticesOf}
 use Rattle.vertices.proofs.Laws.{length-side}
 use Rattle.strip.specs.Joint.{jointVerticesOf}
+use Rattle.strip.proofs.Writing.{spelt-behind}
 use borrow.Author.Needs.{needs}
 use Rattle.strip.proofs.joint.write_vertices.Statement.{statement}
 use Rattle.strip.proofs.joint.write_vertices.Tie as tie
@@ -45,13 +42,12 @@ returns : tie.Need-returns
 unfolding jointVerticesOf
 returns c =
     let second = c .before .before in
-    let first = second .before .before .before .before .before in
-    let start = first .before .before .before in
-    let j = start .args .j in
-    let count = second .before .before .positive-count in
-    let room : 5 * count .result ≤ length (start .args .v .now) = omega (arith, count .ensures, start .pre) in
-    let many : length (flatV (sideVerticesOf j (j .positive))) ≡ 5 * count .result = rw (length-flatV, length-side j (j .positive), count .ensures) in
-    rw (flat-append floatsOf (sideVerticesOf j (j .positive)) (sideVerticesOf j (j .negative))) (behind _ _ _ _ _ (5 * count .result) many room (first .add-join-base-vertices .ensures) (second .add-join-base-vertices2 .ensures))
+    let count = second .before .before in
+    let first = count .before .before .before in
+    let j = first .before .before .before .args .j in
+    let many = count .positive-count .ensures ∙ sym (length-side j (j .positive)) in
+    spelt-behind floatsOf 5 (λ x. refl) (sideVerticesOf j (j .positive)) (sideVerticesOf j (j .negative)) _ _ _ _ (omega (arith, many, first .before .before .before .pre)) many
+    (first .add-join-base-vertices .ensures) (second .add-join-base-vertices2 .ensures)
 
 pub write-vertices-spec : {M : Type 1} → statement M
 write-vertices-spec =

@@ -1,9 +1,6 @@
 -- `strip::section::after` meets its contract. Assumes nothing.
-use Prim.Native.Nat.{_+_, _-_}
-use mathlib.Core.Path.{_≡_}
 use native.Mathlib.Omega.{arith}
-use Rattle.endpoint.specs.Endpoint.{sideCountOf}
-use Rattle.strip.proofs.Joints.{side-few}
+use Rattle.strip.proofs.Joints.{side-few, after-counted}
 use borrow.Author.Needs.{needs}
 use Rattle.strip.proofs.section.after.Statement.{statement}
 use Rattle.strip.proofs.section.after.Tie as tie
@@ -18,13 +15,13 @@ add-vertex-after : tie.Need-add-vertex-after
 add-vertex-after c = search needs
 
 sub-vertex-after : tie.Need-sub-vertex-after
-sub-vertex-after c = omega (arith, c .before .positive-count .ensures, side-few (c .before .before .args .j .positive))
+sub-vertex-after c = omega (arith, side-few (c .before .before .args .j .positive))
 
 vertex-after-requires : tie.Need-vertex-after-requires
 vertex-after-requires c κs = search needs
 
 sub-vertex-after-2 : tie.Need-sub-vertex-after-2
-sub-vertex-after-2 c = omega (arith, c .before .before .positive-count .ensures, side-few (c .before .before .before .args .j .positive))
+sub-vertex-after-2 c = omega (arith, side-few (c .before .before .before .args .j .positive))
 
 vertex-after-requires-2 : tie.Need-vertex-after-requires-2
 vertex-after-requires-2 c κs = search needs
@@ -32,13 +29,8 @@ vertex-after-requires-2 c κs = search needs
 returns : tie.Need-returns
 returns c =
     let n = c .before .before in
-    let args = n .before .before .args in
-    let base = args .base .0 in
-    let p = sideCountOf (args .j .positive) in
-    let m = sideCountOf (args .j .negative) in
-    let negative : base + p + m - 1 ≡ base + (p + m - 1) = omega (arith, side-few (args .j .positive)) in
-    let positive : base + p - 1 ≡ base + (p - 1) = omega (arith, side-few (args .j .positive)) in
-    rw (c .vertex-after2 .ensures, c .before .vertex-after .ensures, n .negative-count .ensures, n .before .positive-count .ensures, negative, positive)
+    let j = n .before .before .args .j in
+    rw (c .vertex-after2 .ensures, c .before .vertex-after .ensures, n .negative-count .ensures, n .before .positive-count .ensures, ← after-counted (n .before .before .args .base .0) j)
 
 pub after-spec : {M : Type 1} → statement M
 after-spec =
