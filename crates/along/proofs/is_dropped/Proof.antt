@@ -1,7 +1,7 @@
--- `walk::is_dropped` meets its contract. Assumes nothing.
+-- `along::is_dropped` meets its contract. Assumes nothing.
 use borrow.Author.Needs.{needs}
-use Rattle.walk.proofs.is_dropped.Statement.{statement}
-use Rattle.walk.proofs.is_dropped.Tie as tie
+use Rattle.along.proofs.is_dropped.Statement.{statement}
+use Rattle.along.proofs.is_dropped.Tie as tie
 
 returns : tie.Need-returns
 returns c = rw (c .if1 .taken)

@@ -1,0 +1,5 @@
+-- For the layers above: none. `Walking`, a run point by point is a run of kept points; `Turns`, one point of a pass; `Splits` and `Writing`, a run's parts.
+pub mod Walking
+pub mod Turns
+pub mod Splits
+pub mod Writing

@@ -1,0 +1,44 @@
+-- `along::strips::pass_cap` meets its contract. Assumes nothing.
+use borrow.Author.Needs.{needs}
+use Rattle.strip.proofs.Counting.{steps-one, puts-one}
+use Rattle.along.proofs.strips.pass_cap.Statement.{statement}
+use Rattle.along.proofs.strips.pass_cap.Tie as tie
+
+-- from a call back to the start
+abbrev entry : tie.After-positive-count → tie.Start
+entry c = c .before .before .before .before .before .before .before .before .before .before
+
+lay-joint-requires : tie.Need-lay-joint-requires
+lay-joint-requires c κs = c .before .before .before .before .pre
+
+positive-count-requires : tie.Need-positive-count-requires
+positive-count-requires c κs = search needs
+
+negative-count-requires : tie.Need-negative-count-requires
+negative-count-requires c κs = search needs
+
+step-requires : tie.Need-step-requires
+step-requires c κs = steps-one (entry (c .before) .pre) _ _ (c .before .positive-count .ensures) (c .negative-count .ensures)
+
+same-length : tie.Need-same-length
+same-length c = search needs
+
+same-length-2 : tie.Need-same-length-2
+same-length-2 c = search needs
+
+returns : tie.Need-returns
+returns c =
+    let p = c .before .before in
+    puts-one (entry p .pre) _ _ (p .positive-count .ensures) (c .before .negative-count .ensures) (c .step .ensures) (p .before .before .before .before .before .lay-joint .ensures)
+
+pub pass-cap-spec : {M : Type 1} → statement M
+pass-cap-spec =
+    tie.close
+    (tie.spec
+    lay-joint-requires
+    positive-count-requires
+    negative-count-requires
+    step-requires
+    same-length
+    same-length-2
+    returns)
