@@ -1,5 +1,3 @@
--- `Splits` takes a run's joints apart as its writers come to them; `Writing` puts the writers together again; `Whole` says what is drawn.
-pub mod Splits
-pub mod Writing
+-- For the layers above: `Facts`, demand 3 of a run, and `Whole`, what is drawn.
 pub mod Whole
 pub mod Facts

@@ -1,4 +1,5 @@
--- A run's pieces, from what the writers of its joints put there. Assumes nothing.
+-- A run's pieces, from what the writers of its joints put there. The plan, in this order: a strip by its steps, and in a closed run the way round; one kept point,
+-- with the empty cap or nothing; and which of these a run is, by the looks for its second and its last kept point. Assumes nothing.
 use Prim.Native.Nat.{ℕ, _+_, _-_, _*_, _/_, _≤_, _<_}
 use mathlib.Core.Path.{_≡_, refl, sym, ap, _∙_}
 use mathlib.Core.Bool.{Bool, true, false}
@@ -11,24 +12,26 @@ use lib.ListN.{length, take, length-drop}
 use Rattle.plane.specs.F32.{f32}
 use Rattle.endpoint.specs.declared.Endpoint.{Endpoint}
 use Rattle.endpoint.specs.declared.EndpointData.{EndpointData}
+use Rattle.endpoint.specs.declared.VertexId.{VertexId}
 use Rattle.vertices.specs.Cap.{capVerticesOf, capTrianglesOf}
 use Rattle.vertices.specs.Vertex.{triangleOf}
 use Rattle.vertices.proofs.Laws.{length-cap}
 use Rattle.lists.specs.Over.{over}
 use Rattle.lists.proofs.Parts.{part-is, put-part}
 use Rattle.pieces.specs.Limits.{numberLimit}
-use Rattle.pieces.specs.Piece.{flatV, flatT, Piece, joined, behind, nextVertex, Lists, lent, laid, Fits, Puts, Lays}
+use Rattle.pieces.specs.Piece.{flatV, flatT, Piece, joined, behind, from, Lists, lent, laid, Fits, Puts, Lays}
 use Rattle.pieces.specs.declared.Place.{Place}
-use Rattle.pieces.proofs.Pieces.{puts-both, fits-front, fits-back, laid-triangles, laid-parts}
+use Rattle.pieces.proofs.Pieces.{puts-both, fits-front, fits-back, laid-triangles, laid-start}
 use Rattle.pieces.proofs.Pieces as pieces
-use Rattle.path.specs.declared.options.Stroke.{Stroke}
-use Rattle.course.proofs.Lengths.{joints-length}
-use Rattle.course.specs.Kept.{keptPoints}
-use Rattle.course.specs.Joint.{jointsOf}
-use Rattle.points.specs.Points.{endpointsOf, endpointAt}
-use Rattle.points.specs.Kept.{FirstFar, Ended, runFrom}
-use Rattle.points.proofs.Indexed.{points-length}
-use Rattle.points.proofs.Laws.{kept-far, kept-alone, kept-ended}
+use Rattle.options.specs.declared.Stroke.{Stroke}
+use Rattle.joints.proofs.Lengths.{joints-length}
+use Rattle.kept.specs.Kept.{keptPoints}
+use Rattle.joints.specs.Joint.{jointsOf}
+use Rattle.kept.specs.Points.{endpointsOf, endpointAt}
+use Rattle.kept.specs.Looks.{FirstFar, Ended, runFrom}
+use Rattle.kept.proofs.Indexed.{points-length}
+use Rattle.kept.proofs.Looks.{kept-far, kept-alone, kept-ended}
+use Rattle.along.specs.declared.Pass.{Pass}
 use Rattle.strip.specs.Joint.{vertexCount, verticesOf}
 use Rattle.strip.specs.Strip.{Has, startOf, stepsOf, pieceOf}
 use Rattle.strip.specs.Strip as strip
@@ -39,27 +42,27 @@ use Rattle.strip.proofs.Joints.{length-vertices}
 use Rattle.strip.proofs.Pending.{puts-piece}
 use Rattle.strip.proofs.Runs.{triangles-are}
 use Rattle.strip.proofs.Steps.{sound-start, sound-steps}
-use Rattle.run.specs.Run.{Shape, nothing, emptyCap, along, shapeCount, shapeVertices, shapeTriangles, shapeOfKept, shapeOf, shapePiece}
-use Rattle.run.specs.Strips.{roundPiece, Rounds, roundedOf}
+use Rattle.run.specs.Run.{Shape, nothing, emptyCap, along, shapeCount, shapeVertices, shapeTriangles, shapeOfKept, shapeOf, shapePiece, DrawFits, Draws}
+use Rattle.run.specs.Round.{roundPiece, Rounds, roundedOf}
 
 -- ---- a strip is what its steps bring and, in a closed run, what comes on the way round
-module _ (o : Stroke) (k : Place) (js : List EndpointData) where
-  open-is : shapePiece o false k (along js) ≡ pieceOf (startOf k) js
+module _ (o : Stroke) (base : VertexId) (js : List EndpointData) where
+  open-is : shapePiece o false base (along js) ≡ pieceOf (startOf base) js
   unfolding shapeVertices shapeTriangles
-  open-is = rw (triangles-are false k js, append-nil)
+  open-is = rw (triangles-are false base js, append-nil)
 
-  closed-is : shapePiece o true k (along js) ≡ joined (pieceOf (startOf k) js) (roundPiece (stepsOf (startOf k) js))
+  closed-is : shapePiece o true base (along js) ≡ joined (pieceOf (startOf base) js) (roundPiece (stepsOf (startOf base) js))
   unfolding shapeVertices shapeTriangles
-  closed-is = rw (triangles-are true k js, append-nil (verticesOf js))
+  closed-is = rw (triangles-are true base js, append-nil (verticesOf js))
 
   module _ {write : Bool} {l : Lists} where
-    pub open-has : Fits write k (shapePiece o false k (along js)) l → Has write (startOf k) js l
-    open-has h = record { sound = sound-start k; fits = rw open-is at h }
+    pub open-has : Fits write (from base) (shapePiece o false base (along js)) l → Has write (startOf base) js l
+    open-has h = record { sound = sound-start base; fits = rw open-is at h }
 
-    pub closed-has : Fits write k (shapePiece o true k (along js)) l → Has write (startOf k) js l
-    closed-has h = record { sound = sound-start k; fits = fits-front (pieceOf (startOf k) js) (roundPiece (stepsOf (startOf k) js)) (rw closed-is at h) }
+    pub closed-has : Fits write (from base) (shapePiece o true base (along js)) l → Has write (startOf base) js l
+    closed-has h = record { sound = sound-start base; fits = fits-front (pieceOf (startOf base) js) (roundPiece (stepsOf (startOf base) js)) (rw closed-is at h) }
 
-    pub open-drawn : {l' : Lists} {s : Strip} → strip.Puts write js (startOf k) l l' s → Puts write k (shapePiece o false k (along js)) l l' (s .place)
+    pub open-drawn : {l' : Lists} {s : Strip} → strip.Puts write js (startOf base) l l' s → Puts write (from base) (shapePiece o false base (along js)) l l' (s .place)
     open-drawn e = rw open-is (puts-piece e)
 
 -- ---- round to the first section
@@ -71,48 +74,42 @@ pub rounded : (s : Strip) (t : List ℕ) → Rounds s t → (t2 : List ℕ) → 
 rounded s t h t2 e = put-part t t2 (flatT (between (s .last) (s .first))) (3 * s .place .triangles) (omega (arith, h .room)) e
 
 -- a closed run has a joint to each of its points, two at least
-pub two-joints : (o : Stroke) (p q : Endpoint) (ks : List Endpoint) → 2 ≤ length (jointsOf true o (p ∷ q ∷ ks))
-two-joints o p q ks = omega (arith, joints-length true o p q ks)
+all-named : (o : Stroke) (base : ℕ) (p q : Endpoint) (ks : List Endpoint) → length (trianglesOf true base (jointsOf true o (p ∷ q ∷ ks))) ≡ vertexCount (jointsOf true o (p ∷ q ∷ ks))
+all-named o base p q ks = go (jointsOf true o (p ∷ q ∷ ks)) (omega (arith, joints-length true o p q ks))
+  where
+    go : (js : List EndpointData) → 2 ≤ length js → length (trianglesOf true base js) ≡ vertexCount js
+    go [] h = absurd (omega arith)
+    go (j ∷ []) h = absurd (omega arith)
+    go (j ∷ i ∷ js) h = closed-count base j i js
 
 -- ---- a closed run, once round
-all-named : (base : ℕ) (js : List EndpointData) → 2 ≤ length js → length (trianglesOf true base js) ≡ vertexCount js
-all-named base [] h = absurd (omega arith)
-all-named base (j ∷ []) h = absurd (omega arith)
-all-named base (j ∷ i ∷ js) h = closed-count base j i js
+module _ (o : Stroke) (p q : Endpoint) (ks : List Endpoint) where
+  abbrev js : List EndpointData
+  js = jointsOf true o (p ∷ q ∷ ks)
 
-module _ {write : Bool} (o : Stroke) {k : Place} {js : List EndpointData} {l : Lists} {v1 : List Float} {t1 : List ℕ} {s : Strip}
-    (h : Fits write k (shapePiece o true k (along js)) l) (e : strip.Puts write js (startOf k) l (lent v1 t1) s) where
-  is-round : shapePiece o true k (along js) ≡ joined (pieceOf (startOf k) js) (roundPiece s)
-  is-round = rw (e .state) (closed-is o k js)
+  module _ {write : Bool} {base : VertexId} {l : Lists} {v1 : List Float} {t1 : List ℕ} {s : Strip} (h : Fits write (from base) (shapePiece o true base (along js)) l) (e : strip.Puts write js (startOf base) l (lent v1 t1) s) where
+    is-round : shapePiece o true base (along js) ≡ joined (pieceOf (startOf base) js) (roundPiece s)
+    is-round = rw (e .state) (closed-is o base js)
 
-  round-fits : Fits write (s .place) (roundPiece s) (lent v1 t1)
-  round-fits = fits-back (pieceOf (startOf k) js) (roundPiece s) (rw is-round at h) (puts-piece e)
+    round-fits : Fits write (s .place) (roundPiece s) (lent v1 t1)
+    round-fits = fits-back (pieceOf (startOf base) js) (roundPiece s) (rw is-round at h) (puts-piece e)
 
-  pub rounds : write ≡ true → Rounds s t1
-  rounds w = record {
-    sound = rw (e .state) (sound-steps (startOf k) js (sound-start k) (closed-has o k js h .fits .numbers));
-    few = omega (arith, round-fits .faces);
-    room = round-fits .triangles w;
-  }
+    pub rounds : write ≡ true → Rounds s t1
+    rounds w = record {
+      sound = rw (e .state) (sound-steps (startOf base) js (sound-start base) (closed-has o base js h .fits .numbers));
+      few = omega (arith, round-fits .faces);
+      room = round-fits .triangles w;
+    }
 
-  -- where it ends
-  pub end-is : 2 ≤ length js → (s .place .vertices ≡ k .vertices + vertexCount js) × (nextVertex k + vertexCount js < numberLimit) × (k .triangles + vertexCount js < numberLimit)
-  unfolding shapeVertices shapeTriangles
-  end-is two =
-      let a = ap (λ (x : Place). x .vertices) (puts-piece e .place) in
-      let n = length-vertices js in
-      let m = all-named (nextVertex k) js two in
-      (omega arith, omega (arith, h .numbers), omega (arith, h .faces))
-
-  pub closed-drawn : 2 ≤ length js → (t2 : List ℕ) → (write ≡ true → t2 ≡ roundedOf s t1)
-      → Puts write k (shapePiece o true k (along js)) l (lent v1 t2) (record { base = k .base; vertices = s .place .vertices; triangles = k .triangles + (s .place .vertices - k .vertices) })
-  unfolding shapeVertices shapeTriangles
-  closed-drawn two t2 et =
-      let b : Puts write k (joined (pieceOf (startOf k) js) (roundPiece s)) l (lent v1 t2) (behind (s .place) (roundPiece s)) =
-      puts-both (puts-piece e) (record { place = refl; lists = λ w. laid-triangles (s .place) (between (s .last) (s .first)) v1 t1 t2 (et w) }) in
-      let n : s .place .vertices ≡ k .vertices + length (verticesOf js) = omega (arith, end-is two .0, length-vertices js) in
-      let m : k .triangles + (s .place .vertices - k .vertices) ≡ k .triangles + length (trianglesOf true (nextVertex k) js) = omega (arith, end-is two .0, all-named (nextVertex k) js two) in
-      record { place = rw (m, n); lists = λ w. b .lists w ∙ ap (λ (p : Piece). laid k p l) (sym is-round) }
+    pub closed-drawn : (t2 : List ℕ) → (write ≡ true → t2 ≡ roundedOf s t1)
+        → Puts write (from base) (shapePiece o true base (along js)) l (lent v1 t2) (record { base = s .place .base; vertices = s .place .vertices; triangles = s .place .vertices })
+    unfolding shapeVertices shapeTriangles
+    closed-drawn t2 et =
+        let b : Puts write (from base) (joined (pieceOf (startOf base) js) (roundPiece s)) l (lent v1 t2) (behind (s .place) (roundPiece s)) =
+        puts-both (puts-piece e) (record { place = refl; lists = λ w. laid-triangles (s .place) (between (s .last) (s .first)) v1 t1 t2 (et w) }) in
+        let z = puts-piece e .place in
+        let m : 0 + length (verticesOf js) ≡ 0 + length (trianglesOf true (base .0) js) = omega (arith, length-vertices js, all-named o (base .0) p q ks) in
+        record { place = rw (z, m); lists = λ w. b .lists w ∙ ap (λ (x : Piece). laid (from base) x l) (sym is-round) }
 
 -- ---- how many
 pub length-shape : (o : Stroke) (s : Shape) → length (shapeVertices o s) ≡ shapeCount s
@@ -122,44 +119,45 @@ length-shape o (emptyCap p) = length-cap (p .position) (o .«half_width») (f32 
 length-shape o (along js) = length-vertices js
 
 -- ---- one kept point
-pub nothing-drawn : (o : Stroke) (closed : Bool) {write : Bool} {k : Place} {l : Lists} → Puts write k (shapePiece o closed k nothing) l l k
+pub nothing-drawn : (o : Stroke) (closed : Bool) (base : VertexId) {write : Bool} {l : Lists} → Puts write (from base) (shapePiece o closed base nothing) l l (from base)
 unfolding shapeVertices shapeTriangles
-nothing-drawn o closed = pieces.puts-none
+nothing-drawn o closed base = pieces.puts-none
 
-module _ (o : Stroke) (closed : Bool) (k : Place) (p : Endpoint) where
+module _ (o : Stroke) (closed : Bool) (base : VertexId) (p : Endpoint) where
   -- an empty cap is the same whether its run is closed or not
-  pub cap-fits : {write : Bool} {l : Lists} → Fits write k (shapePiece o closed k (emptyCap p)) l → Fits write k (shapePiece o false k (emptyCap p)) l
+  pub cap-fits : {write : Bool} {l : Lists} → Fits write (from base) (shapePiece o closed base (emptyCap p)) l → Fits write (from base) (shapePiece o false base (emptyCap p)) l
   unfolding shapeTriangles
   cap-fits h = h
 
-  pub cap-few : {write : Bool} {l : Lists} → Fits write k (shapePiece o closed k (emptyCap p)) l → (nextVertex k + 4 < numberLimit) × (k .triangles + 2 < numberLimit)
+  pub cap-room : {v : List Float} {t : List ℕ} → Fits true (from base) (shapePiece o closed base (emptyCap p)) (lent v t) → (20 ≤ length v) × (6 ≤ length t) × (base .0 + 4 ≤ numberLimit)
   unfolding shapeVertices shapeTriangles
-  cap-few h = (omega (arith, h .numbers, length-cap (p .position) (o .«half_width») (f32 0)), omega (arith, h .faces))
+  cap-room h = let n = length-cap (p .position) (o .«half_width») (f32 0) in (omega (arith, h .vertices refl), omega (arith, h .triangles refl), omega (arith, h .numbers))
 
-  pub cap-room : (v : List Float) (t : List ℕ) → Fits true k (shapePiece o closed k (emptyCap p)) (lent v t) → (5 * k .vertices + 20 ≤ length v) × (3 * k .triangles + 6 ≤ length t)
-  unfolding shapeVertices shapeTriangles
-  cap-room v t h = (omega (arith, h .vertices refl, length-cap (p .position) (o .«half_width») (f32 0)), omega (arith, h .triangles refl))
-
-  pub cap-laid : (v v' : List Float) (t t' : List ℕ) → Fits true k (shapePiece o closed k (emptyCap p)) (lent v t)
-      → (v' ≡ over (flatV (capVerticesOf (p .position) (o .«half_width») (f32 0))) (midOf (5 * k .vertices) (length v - 5 * k .vertices) v))
-      × (t' ≡ over (flatT (capTrianglesOf (record { 0 = nextVertex k }))) (midOf (3 * k .triangles) (length t - 3 * k .triangles) t))
-      → lent (putMid (5 * k .vertices) (length v - 5 * k .vertices) v v') (putMid (3 * k .triangles) (length t - 3 * k .triangles) t t') ≡ laid k (shapePiece o closed k (emptyCap p)) (lent v t)
+  pub cap-laid : (v : List Float) (t : List ℕ) {v' : List Float} {t' : List ℕ} → (v' ≡ over (flatV (capVerticesOf (p .position) (o .«half_width») (f32 0))) v) × (t' ≡ over (flatT (capTrianglesOf base)) t)
+      → lent v' t' ≡ laid (from base) (shapePiece o closed base (emptyCap p)) (lent v t)
   unfolding shapeVertices shapeTriangles capTrianglesOf triangleOf
-  cap-laid v v' t t' h e = laid-parts k (shapePiece o closed k (emptyCap p)) v v' t t' h (e .0) (e .1)
+  cap-laid v t e = rw (e .0, e .1) (sym (laid-start base (shapePiece o closed base (emptyCap p)) (lent v t)))
 
-  pub cap-drawn : {write : Bool} {l l' : Lists} → Lays write k (shapePiece o false k (emptyCap p)) l l'
-      → Puts write k (shapePiece o closed k (emptyCap p)) l l' (record { base = k .base; vertices = k .vertices + 4; triangles = k .triangles + 2 })
+  pub cap-drawn : {write : Bool} {l l' : Lists} → Lays write (from base) (shapePiece o false base (emptyCap p)) l l'
+      → Puts write (from base) (shapePiece o closed base (emptyCap p)) l l' (record { base = base; vertices = 4; triangles = 2 })
   unfolding shapeVertices shapeTriangles
   cap-drawn h = record { place = rw (length-cap (p .position) (o .«half_width») (f32 0)); lists = h }
 
--- ---- the kept points of a run whose coordinates are p
-pub alone-shape : (o : Stroke) (closed lines : Bool) (p : List Float) (first i : ℕ) → 2 ≤ length p → FirstFar p first i → length p / 2 ≤ i
-    → shapeOfKept o closed lines (keptPoints false (endpointsOf first p)) ≡ shapeOfKept o closed lines (endpointAt p first 0 ∷ [])
-alone-shape o closed lines p first i h f l = ap (shapeOfKept o closed lines) (kept-alone p first i h f l)
+-- ---- a run under another name
+module _ (pass : Pass) {closed d : Bool} (c : closed ≡ d) {base : VertexId} {s r : Shape} (e : s ≡ r) {l : Lists} where
+  pub fits-as : DrawFits pass closed base s l → DrawFits pass d base r l
+  fits-as h = rw (c, e) at h
 
-pub far-shape : (o : Stroke) (closed lines : Bool) (p : List Float) (first i : ℕ) → 2 ≤ length p → FirstFar p first i → i < length p / 2
-    → shapeOfKept o closed lines (keptPoints false (endpointsOf first p)) ≡ along (jointsOf closed o (runFrom p first i))
-far-shape o closed lines p first i h f l = ap (shapeOfKept o closed lines) (kept-far p first i h f l)
+  pub draws-as : {l' : Lists} {k : Place} → Draws pass d base r l l' k → Draws pass closed base s l l' k
+  draws-as h = rw (c, e) h
+
+-- ---- the kept points of a run whose coordinates are p
+module _ (o : Stroke) (lines : Bool) {p : List Float} {first i : ℕ} (h : 2 ≤ length p) (f : FirstFar (o .near) p first i) where
+  pub alone-shape : (closed : Bool) → length p / 2 ≤ i → {q : Endpoint} → q ≡ endpointAt p first 0 → shapeOfKept o closed lines (keptPoints (o .near) false (endpointsOf first p)) ≡ shapeOfKept o closed lines (q ∷ [])
+  alone-shape closed l e = rw e (ap (shapeOfKept o closed lines) (kept-alone (o .near) p first i h f l))
+
+  pub far-shape : {closed d : Bool} → closed ≡ d → i < length p / 2 → shapeOfKept o closed lines (keptPoints (o .near) false (endpointsOf first p)) ≡ along (jointsOf d o (runFrom (o .near) p first i))
+  far-shape {closed} c l = rw (← c) (ap (shapeOfKept o closed lines) (kept-far (o .near) p first i h f l))
 
 -- ---- the whole run
 pub no-points : (o : Stroke) (closed : Bool) (p : List Float) (first : ℕ) → length p < 2 → shapeOf o closed (endpointsOf first p) ≡ nothing
@@ -168,12 +166,12 @@ no-points o closed [] first h = refl
 no-points o closed (x ∷ []) first h = refl
 no-points o closed (x ∷ y ∷ p) first h = absurd (omega arith)
 
-pub open-shape : (o : Stroke) (lines : Bool) (p : List Float) (first : ℕ) → lines ≡ ltb 1 (length p / 2)
-    → shapeOf o false (endpointsOf first p) ≡ shapeOfKept o false lines (keptPoints false (endpointsOf first p))
+pub open-shape : (o : Stroke) {closed lines : Bool} (p : List Float) (first : ℕ) → closed ≡ false → lines ≡ ltb 1 (length p / 2)
+    → shapeOf o closed (endpointsOf first p) ≡ shapeOfKept o closed lines (keptPoints (o .near) false (endpointsOf first p))
 unfolding shapeOf
-open-shape o lines p first e = rw (e, points-length p first)
+open-shape o p first c e = rw (c, e, points-length p first)
 
-pub closed-shape : (o : Stroke) (lines : Bool) (p : List Float) (first e : ℕ) → lines ≡ ltb 1 (length p / 2) → 2 ≤ length p → Ended p first e
-    → shapeOf o true (endpointsOf first p) ≡ shapeOfKept o true lines (keptPoints false (endpointsOf first (take (2 * e) p)))
+pub closed-shape : (o : Stroke) {closed lines : Bool} {p : List Float} {first e : ℕ} → closed ≡ true → lines ≡ ltb 1 (length p / 2) → 2 ≤ length p → Ended (o .near) p first e
+    → shapeOf o closed (endpointsOf first p) ≡ shapeOfKept o closed lines (keptPoints (o .near) false (endpointsOf first (take (2 * e) p)))
 unfolding shapeOf
-closed-shape o lines p first e l h f = rw (l, points-length p first, kept-ended p first e h f)
+closed-shape o {closed} {lines} {p} {first} {e} c l h f = rw (c, l, points-length p first, kept-ended (o .near) p first e h f)

@@ -1,4 +1,4 @@
--- `Run` is what a run draws; `Facts` demand 3 of it; `Strips` what the writers of its strip need and do.
+-- `Run` is what a run draws, `Round` the way round of a closed one; `Facts` is demand 3 of a run.
 pub mod Run
-pub mod Strips
+pub mod Round
 pub mod Facts
