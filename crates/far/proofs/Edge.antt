@@ -1,34 +1,25 @@
 -- An edge between two points that are not near is not short: the points beside its ends are not too near each other, on either side. Not near is ten
 -- grains apart in a component, the offset is bounded, and of ten grains it leaves two. And nearness is the same both ways. Assumes nothing.
-use mathlib.Core.Path.{_≡_, refl}
+use mathlib.Core.Path.{_≡_}
 use mathlib.Core.Logic.{_⊎_, inl, inr}
-use Prim.Native.Nat.{_*_}
-use native.Mathlib.Nat.{le-refl}
 use mathlib.Core.Bool.{Bool, false, _||_}
 use lib.Dec.{lit<}
 use lib.Ieee.{Float, binary32, add, sub, lt, ofBits}
-use lib.Ieee.Exact.{HasValue}
 use Rattle.plane.specs.Vector as vector
 use Rattle.plane.specs.declared.vector.Point.{Point}
 use Rattle.endpoint.specs.declared.Endpoint.{Endpoint}
 use Rattle.join.specs.Edge.{edgeOf, edgeSideOf}
-use Rattle.course.specs.Kept.{nearOf}
-use Rattle.course.specs.Leg.{legOf, shortOf}
-use Rattle.rounding.proofs.Scales.{one, speck}
+use Rattle.kept.specs.Kept.{nearOf}
+use Rattle.joints.specs.Leg.{legOf, shortOf}
 use Rattle.rounding.proofs.Results.{bounded-neg}
 use Rattle.rounding.proofs.Differences.{Gap, gap}
 use Rattle.rounding.proofs.Squares.{squareLength, square-mirrored}
-use Rattle.far.proofs.Ranges.{Half, Inside}
+use Rattle.far.proofs.Ranges.{Half, Inside, Limit}
 use Rattle.far.proofs.Apart.{Apart, not-near-apart, two-grains}
 use Rattle.far.proofs.Offsets.{Offset, offset-x, offset-y}
 use Rattle.far.proofs.Moved.{moved}
 
 -- ---- two points: nearness, by the distance in a component
--- rule 1's limit, 2 ^ -14
-near-limit : HasValue (ofBits binary32 0x38800000) false (256 * speck) one
-unfolding ofBits one speck
-near-limit = (refl, refl)
-
 module _ {p q : Point} (P : Inside p) (Q : Inside q) where
   abbrev pub gap-x : Gap 32768 (p .x) (q .x)
   gap-x = gap 32768 (p .x) (q .x) (lit< tt) (P .x) (Q .x)
@@ -36,13 +27,13 @@ module _ {p q : Point} (P : Inside p) (Q : Inside q) where
   abbrev pub gap-y : Gap 32768 (p .y) (q .y)
   gap-y = gap 32768 (p .y) (q .y) (lit< tt) (P .y) (Q .y)
 
-  pub near-apart : nearOf p q ≡ false → Apart gap-x ⊎ Apart gap-y
+  pub near-apart : (limit : Float) → Limit limit → nearOf limit p q ≡ false → Apart gap-x ⊎ Apart gap-y
   unfolding nearOf vector.minusOf vector.squareLengthOf
-  near-apart e = not-near-apart gap-x gap-y (ofBits binary32 0x38800000) (256 * speck) near-limit (le-refl (256 * speck)) e
+  near-apart limit l e = not-near-apart gap-x gap-y limit (l .size) (l .value) (l .least) e
 
-  pub near-mutual : nearOf p q ≡ nearOf q p
+  pub near-mutual : (limit : Float) → nearOf limit p q ≡ nearOf limit q p
   unfolding nearOf vector.minusOf vector.squareLengthOf
-  near-mutual = rw (square-mirrored (lit< tt) gap-x, square-mirrored (lit< tt) gap-y)
+  near-mutual limit = rw (square-mirrored (lit< tt) gap-x, square-mirrored (lit< tt) gap-y)
 
 -- ---- one side
 side : {a b c d o p : Float} (G : Gap 32768 a b) (H : Gap 32768 c d) → Apart G ⊎ Apart H → Offset o → Offset p
@@ -56,13 +47,13 @@ side G H far O P =
 neither : (a b : Bool) → a ≡ false → b ≡ false → (a || b) ≡ false
 neither a b p q = rw (p, q)
 
-module _ (h start : Float) (a b : Endpoint) (half : Half h) (from : Inside (a .position)) (to : Inside (b .position)) where
-  pub not-short : nearOf (a .position) (b .position) ≡ false → shortOf (legOf h start a b) ≡ false
+module _ (limit h start : Float) (a b : Endpoint) (least : Limit limit) (half : Half h) (from : Inside (a .position)) (to : Inside (b .position)) where
+  pub not-short : nearOf limit (a .position) (b .position) ≡ false → shortOf (legOf h start a b) ≡ false
   unfolding shortOf legOf edgeOf edgeSideOf vector.plusOf vector.minusOf vector.timesOf vector.overOf vector.turnedOf vector.squareLengthOf vector.lengthOf sub
   not-short e =
       let G = gap-x from to in
       let H = gap-y from to in
-      let far = near-apart from to e in
+      let far = near-apart from to limit least e in
       let O = offset-x G H far h half in
       let P = offset-y G H far h half in
       neither _ _ (side G H far O P) (side G H far (bounded-neg O) (bounded-neg P))

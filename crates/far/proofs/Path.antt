@@ -13,17 +13,17 @@ use Rattle.endpoint.specs.declared.Endpoint.{Endpoint}
 use Rattle.path.specs.Verbs.{endClosed, names}
 use Rattle.path.specs.Coordinates.{coordinateIn}
 use Rattle.path.specs.Path.{Sound}
-use Rattle.path.specs.Options.{accepting, strokeOf}
+use Rattle.options.specs.Options.{accepting, strokeOf}
 use Rattle.path.specs.Runs.{Run, runsFrom}
-use Rattle.path.specs.declared.options.Options.{Options}
-use Rattle.path.specs.declared.options.Stroke.{Stroke}
+use Rattle.options.specs.declared.Options.{Options}
+use Rattle.options.specs.declared.Stroke.{Stroke}
 use Rattle.path.proofs.Laws.{within-at}
-use Rattle.points.specs.Points.{endpointsOf}
-use Rattle.course.specs.Kept.{keptPoints}
-use Rattle.course.specs.Leg.{legsOf, firstShort}
-use Rattle.course.proofs.All.{All, all-append, all-take, all-drop}
-use Rattle.drive.specs.Runs.{runsOf, meshEdges}
-use Rattle.far.proofs.Ranges.{Half, coordinate, half-width}
+use Rattle.kept.specs.Points.{endpointsOf}
+use Rattle.kept.specs.Kept.{keptPoints}
+use Rattle.joints.specs.Leg.{legsOf, firstShort}
+use Rattle.kept.proofs.All.{All, all-append, all-take, all-drop}
+use Rattle.runs.specs.Runs.{runsOf, meshEdges}
+use Rattle.far.proofs.Ranges.{Half, Limit, coordinate, half-width, near-limit}
 use Rattle.far.proofs.Course.{PointIn, NotShort, none-short, run-none}
 
 -- ---- the points of a path
@@ -52,14 +52,14 @@ pub path-in : (verbs : List ℕ) (coords : List Float) → Sound verbs coords �
 path-in verbs coords s = runs-in 0 verbs (endpointsOf 0 coords) (points-in 0 coords (within-at coords (s .within)))
 
 -- ---- their edges
-edges-none : (o : Stroke) → Half (o .«half_width») → (rs : List (Run Endpoint)) → All RunIn rs → All NotShort (meshEdges o rs)
+edges-none : (o : Stroke) → Limit (o .near) → Half (o .«half_width») → (rs : List (Run Endpoint)) → All RunIn rs → All NotShort (meshEdges o rs)
 unfolding meshEdges
-edges-none o h [] i = tt
-edges-none o h (r ∷ rs) i =
-    all-append NotShort (legsOf (r .closed) (o .«half_width») (keptPoints (r .closed) (r .points))) (meshEdges o rs)
-    (run-none (o .«half_width») h (r .closed) (r .points) (i .0)) (edges-none o h rs (i .1))
+edges-none o l h [] i = tt
+edges-none o l h (r ∷ rs) i =
+    all-append NotShort (legsOf (r .closed) (o .«half_width») (keptPoints (o .near) (r .closed) (r .points))) (meshEdges o rs)
+    (run-none (o .near) (o .«half_width») l h (r .closed) (r .points) (i .0)) (edges-none o l h rs (i .1))
 
 -- ---- "5: an edge whose offset points on a side have f32 squared distance below 2^-40": there is none
 pub no-short : (options : Options) (o : Stroke) (verbs : List ℕ) (coords : List Float) → strokeOf options ≡ accepting o → Sound verbs coords
     → firstShort (meshEdges o (runsOf verbs coords)) ≡ length (meshEdges o (runsOf verbs coords))
-no-short options o verbs coords e s = none-short (meshEdges o (runsOf verbs coords)) (edges-none o (half-width options o e) (runsOf verbs coords) (path-in verbs coords s))
+no-short options o verbs coords e s = none-short (meshEdges o (runsOf verbs coords)) (edges-none o (near-limit options o e) (half-width options o e) (runsOf verbs coords) (path-in verbs coords s))

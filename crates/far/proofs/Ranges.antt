@@ -1,8 +1,8 @@
--- What the checks of a call tell of its numbers: an accepted coordinate is finite and at most 32,768 in size, and the half width of accepted
--- options is finite and at most 8,192. Assumes nothing.
+-- What the checks of a call tell of its numbers: an accepted coordinate is finite and at most 32,768 in size, the half width of accepted options is
+-- finite and at most 8,192, and their limit of nearness at least 2 ^ -14. Assumes nothing.
 use mathlib.Core.Path.{_≡_, refl, sym, ap, subst}
 use Prim.Native.Nat.{ℕ, _*_, _≤_, _<_}
-use native.Mathlib.Nat.{le-of-eq, le-of-lt, mul-pos}
+use native.Mathlib.Nat.{le-refl, le-of-eq, le-of-lt, mul-pos}
 use native.Mathlib.Omega.{arith}
 use mathlib.Core.Bool.{Bool, true, false, _&&_, _||_, false≢true}
 use lib.Dec.{T, ltb, eqb, ltb→lt, eqb→eq, lit<}
@@ -13,10 +13,11 @@ use lib.Ieee.Positive.{num, den, den-pos, between, positive-finite, le→cross}
 use Rattle.plane.specs.Normal.{pick}
 use Rattle.plane.specs.declared.vector.Point.{Point}
 use Rattle.path.specs.Coordinates.{coordinateIn}
-use Rattle.path.specs.Options.{within, widthIn, limitIn, joinIn, capIn, inRange, preparedOf, accepting, refusing, strokeOf}
-use Rattle.path.specs.declared.options.Options.{Options}
-use Rattle.path.specs.declared.options.Stroke.{Stroke}
-use Rattle.path.specs.declared.options.StrokeAnswer.{StrokeAnswer}
+use Rattle.options.specs.Options.{within, widthIn, limitIn, joinIn, capIn, inRange, nearSquare, preparedOf, accepting, strokeOf}
+use Rattle.options.specs.declared.Options.{Options}
+use Rattle.options.specs.declared.Stroke.{Stroke}
+use Rattle.options.specs.declared.StrokeAnswer.{StrokeAnswer}
+use Rattle.rounding.proofs.Scales.{one, speck}
 use Rattle.rounding.proofs.Values.{sign, finite-value, mul-round}
 use Rattle.rounding.proofs.Results.{whole, made, made-bounded, Within, bounded-within}
 
@@ -27,6 +28,12 @@ pub record Inside (p : Point) : Type 0 where
 
 abbrev pub Half : Float → Type 0
 Half h = Within 8192 h
+
+-- points whose squared distance is not below it are far enough apart: 256 specks, 2 ^ -14, or more
+pub record Limit (x : Float) : Type 0 where
+  pub size : ℕ
+  pub value : HasValue x false size one
+  pub least : 256 * speck ≤ size
 
 told : (t : Bool) → t ≡ true → T t
 told true e = tt
@@ -95,11 +102,11 @@ width-in o e =
 
 pub accepted : (options : Options) (o : Stroke) → strokeOf options ≡ accepting o → T (widthIn (options .width)) × (preparedOf options ≡ o)
 unfolding strokeOf
-accepted options o e = let a = chosen (inRange options) (preparedOf options) e in (width-in options (a .0), a .1)
+accepted options o e = let a = chosen (inRange options) (preparedOf options) _ refl e in (width-in options (a .0), a .1)
   where
-    chosen : (t : Bool) (s : Stroke) → pick t (accepting s) refusing ≡ accepting o → (t ≡ true) × (s ≡ o)
-    chosen true s e = (refl, ap (λ (a : StrokeAnswer). a .stroke) e)
-    chosen false s e = let n = ap (λ (a : StrokeAnswer). a .number) e in absurd (omega arith)
+    chosen : (t : Bool) (s : Stroke) (refused : StrokeAnswer) → 1 ≡ refused .number → pick t (accepting s) refused ≡ accepting o → (t ≡ true) × (s ≡ o)
+    chosen true s refused r e = (refl, ap (λ (a : StrokeAnswer). a .stroke) e)
+    chosen false s refused r e = let n = ap (λ (a : StrokeAnswer). a .number) e in absurd (omega (arith, r, n))
 
 prepared-half : (o : Options) → preparedOf o .«half_width» ≡ mul binary32 (o .width) (ofBits binary32 0x3f000000)
 unfolding preparedOf
@@ -109,3 +116,15 @@ pub half-width : (options : Options) (o : Stroke) → strokeOf options ≡ accep
 half-width options o e =
     let a = accepted options o e in
     subst (λ (s : Stroke). Half (s .«half_width»)) (a .1) (subst Half (sym (prepared-half options)) (halved (options .width) (width-bound (options .width) (a .0))))
+
+-- ---- the limit of nearness
+near-square : Limit nearSquare
+unfolding ofBits one speck
+near-square = record { size = 256 * speck; value = (refl, refl); least = le-refl (256 * speck) }
+
+prepared-near : (o : Options) → preparedOf o .near ≡ nearSquare
+unfolding preparedOf
+prepared-near o = refl
+
+pub near-limit : (options : Options) (o : Stroke) → strokeOf options ≡ accepting o → Limit (o .near)
+near-limit options o e = subst (λ (s : Stroke). Limit (s .near)) (accepted options o e .1) (subst Limit (sym (prepared-near options)) near-square)

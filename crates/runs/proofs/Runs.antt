@@ -7,12 +7,13 @@ use lib.ListN.{length, length-append}
 use Rattle.endpoint.specs.declared.Endpoint.{Endpoint}
 use Rattle.pieces.specs.Piece.{joined, behind, nextVertex}
 use Rattle.pieces.specs.declared.Place.{Place}
-use Rattle.path.specs.declared.options.Stroke.{Stroke}
+use Rattle.options.specs.declared.Stroke.{Stroke}
+use Rattle.path.specs.Limits.{mostToPoint}
 use Rattle.path.specs.Runs.{Run, pointsOf}
 use Rattle.run.specs.Run.{shapeCount}
 use Rattle.run.proofs.Facts.{run-within, run-anywhere}
 use Rattle.run.proofs.Whole.{length-shape}
-use Rattle.drive.specs.Runs.{Count, drawnOf, meshVertices, meshCount, meshTriangles, meshPiece, meshCounts}
+use Rattle.runs.specs.Runs.{Count, drawnOf, meshVertices, meshCount, meshTriangles, meshPiece, meshCounts}
 
 module _ (o : Stroke) where
   pub vertices-append : (xs ys : List (Run Endpoint)) → meshVertices o (xs ++ ys) ≡ meshVertices o xs ++ meshVertices o ys
@@ -51,9 +52,9 @@ module _ (o : Stroke) where
       let s = drawnOf o r in
       simp length-append (omega (arith, run-anywhere o (r .closed) base (r .points), triangles-anywhere (base + shapeCount s) rs, triangles-anywhere (0 + shapeCount s) rs))
 
--- ---- bounds, in one place: four vertices to a point, no more triangles than vertices
+-- ---- bounds, in one place: so many vertices to a point, no more triangles than vertices
 pub record Bounded (n : ℕ) (c : Count) : Type 0 where
-  pub vertices : c .vertices ≤ 4 * n
+  pub vertices : c .vertices ≤ mostToPoint * n
   pub triangles : c .triangles ≤ c .vertices
 
 pub runs-bounded : (o : Stroke) (rs : List (Run Endpoint)) → Bounded (length (pointsOf rs)) (meshCounts o rs)

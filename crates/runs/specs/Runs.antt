@@ -4,12 +4,12 @@ use mathlib.Core.List.{List, [], _∷_, _++_}
 use lib.Ieee.{Float}
 use lib.ListN.{length}
 use Rattle.endpoint.specs.declared.Endpoint.{Endpoint}
-use Rattle.path.specs.declared.options.Stroke.{Stroke}
+use Rattle.options.specs.declared.Stroke.{Stroke}
 use Rattle.path.specs.Runs.{Run, runsFrom}
-use Rattle.points.specs.Points.{endpointsOf}
-use Rattle.course.specs.Kept.{keptPoints}
-use Rattle.course.specs.Leg.{legsOf, firstShort}
-use Rattle.course.specs.declared.leg.Leg.{Leg}
+use Rattle.kept.specs.Points.{endpointsOf}
+use Rattle.kept.specs.Kept.{keptPoints}
+use Rattle.joints.specs.Leg.{legsOf, firstShort}
+use Rattle.joints.specs.declared.leg.Leg.{Leg}
 use Rattle.triangles.specs.Tri.{Tri}
 use Rattle.pieces.specs.Piece.{Vertex, Piece, nextVertex}
 use Rattle.pieces.specs.declared.Place.{Place}
@@ -44,7 +44,7 @@ meshPiece o k rs = record { vertices = meshVertices o rs; triangles = meshTriang
 -- "the kept edges of all runs, closing ones included"
 unfoldable pub meshEdges : Stroke → List (Run Endpoint) → List Leg
 meshEdges o [] = []
-meshEdges o (r ∷ rs) = legsOf (r .closed) (o .«half_width») (keptPoints (r .closed) (r .points)) ++ meshEdges o rs
+meshEdges o (r ∷ rs) = legsOf (r .closed) (o .«half_width») (keptPoints (o .near) (r .closed) (r .points)) ++ meshEdges o rs
 
 -- how many of each there are, and the first short edge
 pub record Count : Type 0 where

@@ -6,15 +6,21 @@ use lib.Dec.{eqb}
 use lib.ListN.{take, drop}
 use Rattle.endpoint.specs.Endpoint.{endpointAfter}
 use Rattle.endpoint.specs.declared.Endpoint.{Endpoint}
+use Rattle.pieces.specs.Piece.{from}
+use Rattle.pieces.specs.declared.Place.{Place}
 use Rattle.path.specs.Runs.{Run}
 use Rattle.path.specs.Verbs.{endClosed, names}
-use Rattle.drive.specs.declared.cursor.Cursor.{Cursor}
+use Rattle.runs.specs.declared.cursor.Cursor.{Cursor}
+
+-- where a mesh begins
+abbrev pub undrawn : Place
+undrawn = from (record { 0 = 0 })
 
 abbrev pub startOf : Cursor
-startOf = record { first = record { 0 = 0 }; size = 0 }
+startOf = record { first = record { 0 = 0 }; size = 0; place = undrawn }
 
-unfoldable pub movedOf : Cursor → ℕ → Cursor
-movedOf g verb = cond (names verb) (record { first = g .first; size = g .size + 1 }) (record { first = endpointAfter (g .first) (g .size); size = 0 })
+unfoldable pub movedOf : Cursor → ℕ → Place → Cursor
+movedOf g verb place = cond (names verb) (record { first = g .first; size = g .size + 1; place = place }) (record { first = endpointAfter (g .first) (g .size); size = 0; place = place })
 
 -- the run that is current
 abbrev pub currentOf : Cursor → ℕ → List Endpoint → Run Endpoint

@@ -1,14 +1,14 @@
--- `drive::cursor::moved` meets its contract. Assumes nothing.
+-- `runs::cursor::moved` meets its contract. Assumes nothing.
 use borrow.Author.Needs.{needs}
-use Rattle.drive.specs.Cursor.{movedOf}
-use Rattle.drive.proofs.cursor.moved.Statement.{statement}
-use Rattle.drive.proofs.cursor.moved.Tie as tie
+use Rattle.runs.specs.Cursor.{movedOf}
+use Rattle.runs.proofs.cursor.moved.Statement.{statement}
+use Rattle.runs.proofs.cursor.moved.Tie as tie
 
 names-point-requires : tie.Need-names-point-requires
 names-point-requires c κs = search needs
 
-add-t5 : tie.Need-add-t5
-add-t5 c = search needs
+add-t6 : tie.Need-add-t6
+add-t6 c = search needs
 
 returns : tie.Need-returns
 unfolding movedOf
@@ -22,4 +22,5 @@ unfolding movedOf
 returns-2 c = rw (c .endpoint-after .ensures, ← c .before .before .names-point .ensures, c .before .if1 .left)
 
 pub moved-spec : {M : Type 1} → statement M
-moved-spec = tie.close (tie.spec names-point-requires add-t5 returns endpoint-after-requires returns-2)
+moved-spec =
+    tie.close (tie.spec names-point-requires add-t6 returns endpoint-after-requires returns-2)

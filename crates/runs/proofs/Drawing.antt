@@ -1,0 +1,112 @@
+-- A pass: what is counted and, where it writes, written is the runs that are done. Assumes nothing.
+use Prim.Native.Nat.{ℕ, _+_, _-_, _*_, _≤_, _<_}
+use mathlib.Core.Path.{_≡_}
+use mathlib.Core.Bool.{Bool, false, cond}
+use mathlib.Core.List.{List, [], _++_, append-nil}
+use native.Mathlib.Omega.{arith}
+use borrow.Rule.Slice.PartMut.{midOf, putMid}
+use lib.Dec.{eqb}
+use lib.Ieee.{Float}
+use lib.ListN.{length, drop, getD}
+use Rattle.endpoint.specs.declared.Endpoint.{Endpoint}
+use Rattle.endpoint.specs.declared.VertexId.{VertexId}
+use Rattle.pieces.specs.Piece.{Piece, joined, behind, from, nextVertex, anew, Lists, lent, Fits, Puts}
+use Rattle.pieces.specs.Limits.{numberLimit}
+use Rattle.pieces.specs.declared.Place.{Place}
+use Rattle.pieces.proofs.Pieces.{puts-none, puts-both, fits-front, fits-back, reached, parts-fit, parts-put}
+use Rattle.options.specs.declared.Stroke.{Stroke}
+use Rattle.path.specs.Runs.{Run, runsFrom}
+use Rattle.path.specs.Verbs.{endClosed, names}
+use Rattle.run.specs.Run.{shapeOf, shapeVertices, shapeTriangles, shapePiece}
+use Rattle.runs.specs.Runs.{drawnOf, meshVertices, meshTriangles, meshPiece}
+use Rattle.runs.specs.Cursor.{undrawn, startOf, movedOf, currentOf, endedOf}
+use Rattle.runs.specs.Passes.{Paired, Inside}
+use Rattle.runs.specs.declared.cursor.Cursor.{Cursor}
+use Rattle.runs.proofs.Passing.{Passing, moved-place, pass-none, pass-split, pass-turn, pass-all, pass-inside}
+use Rattle.runs.proofs.Runs.{meshes-append}
+
+-- ---- runs one behind the other
+module _ (o : Stroke) {write : Bool} {k : Place} {l : Lists} where
+  runs-none : Puts write k (meshPiece o k []) l l k
+  unfolding meshVertices meshTriangles
+  runs-none = puts-none
+
+  runs-front : (xs ys : List (Run Endpoint)) → Fits write k (meshPiece o k (xs ++ ys)) l → Fits write k (meshPiece o k xs) l
+  runs-front xs ys h = fits-front (meshPiece o k xs) (meshPiece o (behind k (meshPiece o k xs)) ys) (rw (meshes-append o k xs ys) at h)
+
+  module _ (xs ys : List (Run Endpoint)) {l1 : Lists} {k1 : Place} (e : Puts write k (meshPiece o k xs) l l1 k1) where
+    split : meshPiece o k (xs ++ ys) ≡ joined (meshPiece o k xs) (meshPiece o k1 ys)
+    split = rw (e .place) (meshes-append o k xs ys)
+
+    runs-back : Fits write k (meshPiece o k (xs ++ ys)) l → Fits write k1 (meshPiece o k1 ys) l1
+    runs-back h = fits-back (meshPiece o k xs) (meshPiece o k1 ys) (rw split at h) e
+
+    runs-both : {l2 : Lists} {k2 : Place} → Puts write k1 (meshPiece o k1 ys) l1 l2 k2 → Puts write k (meshPiece o k (xs ++ ys)) l l2 k2
+    runs-both f = rw split (puts-both e f)
+
+-- ---- a verb: one that names no point ends the current run
+module _ (o : Stroke) (g : Cursor) (verb : ℕ) (ps : List Endpoint) where
+  abbrev run : Piece
+  run = let r = currentOf g verb ps in shapePiece o (r .closed) (record { 0 = nextVertex (g .place) }) (drawnOf o r)
+
+  one-is : names verb ≡ false → meshPiece o (g .place) (endedOf g verb ps) ≡ run
+  unfolding endedOf meshVertices meshTriangles
+  one-is n =
+      let r = currentOf g verb ps in
+      rw (n, append-nil (shapeVertices o (drawnOf o r)), append-nil (shapeTriangles (r .closed) (nextVertex (g .place)) (drawnOf o r)))
+
+  -- it is drawn in the parts that begin at a and b, whose first vertex has the number `vertex`, from its points qs
+  module _ {write : Bool} {v : List Float} {t : List ℕ} {a b : ℕ} {vertex : VertexId} {qs : List Endpoint} (n : names verb ≡ false) (ea : a ≡ cond write (5 * g .place .vertices) 0)
+      (eb : b ≡ cond write (3 * g .place .triangles) 0) (ev : vertex ≡ record { 0 = nextVertex (g .place) }) (eq : qs ≡ currentOf g verb ps .points)
+      (h : Fits write (g .place) (meshPiece o (g .place) (endedOf g verb ps)) (lent v t)) where
+    run-fits : Fits write (g .place) run (lent v t)
+    run-fits = rw (one-is n) at h
+
+    pub part-fits : Fits write (from vertex) (shapePiece o (eqb verb endClosed) vertex (shapeOf o (eqb verb endClosed) qs)) (lent (midOf a (length v - a) v) (midOf b (length t - b) t))
+    part-fits = rw (ea, eb, ev, eq) (parts-fit (g .place) run v t write run-fits)
+
+    module _ {v' : List Float} {t' : List ℕ} {r : Place}
+        (e : Puts write (from vertex) (shapePiece o (eqb verb endClosed) vertex (shapeOf o (eqb verb endClosed) qs)) (lent (midOf a (length v - a) v) (midOf b (length t - b) t)) (lent v' t') r) where
+      drawn : Puts write (anew (g .place)) run (lent (midOf a (length v - a) v) (midOf b (length t - b) t)) (lent v' t') r
+      drawn = rw (ev, eq) at e
+
+      pub part-few : (nextVertex (g .place) + r .vertices < numberLimit) × (g .place .triangles + r .triangles < numberLimit)
+      part-few = rw (drawn .place) (omega (arith, run-fits .numbers), omega (arith, run-fits .faces))
+
+      pub part-puts : Puts write (g .place) (meshPiece o (g .place) (endedOf g verb ps)) (lent v t) (lent (putMid a (length v - a) v v') (putMid b (length t - b) t t')) (reached (g .place) run v t r)
+      part-puts = rw (one-is n, ea, eb) (parts-put (g .place) run v t write run-fits v' t' r (rw (ea, eb) at drawn))
+
+-- ---- the pass
+pub record Going (write : Bool) (o : Stroke) (vs : List ℕ) (ps : List Endpoint) (l0 : Lists) (i : ℕ) (g : Cursor) (l : Lists) : Type 0 where
+  pub done : List (Run Endpoint)
+  pub passing : Passing vs ps i g done
+  pub puts : Puts write undrawn (meshPiece o undrawn done) l0 l (g .place)
+
+pub going-none : (write : Bool) (o : Stroke) (vs : List ℕ) (ps : List Endpoint) (l : Lists) → Going write o vs ps l 0 startOf l
+going-none write o vs ps l = record { done = []; passing = pass-none vs ps; puts = runs-none o }
+
+module _ {write : Bool} {o : Stroke} {vs : List ℕ} {ps : List Endpoint} {l0 : Lists} {i : ℕ} {g : Cursor} {l : Lists} (m : Going write o vs ps l0 i g l) where
+  pub going-inside : (cs : List Float) → Paired vs cs → Inside g cs
+  going-inside cs q = pass-inside vs ps i g (m .done) (m .passing) cs q
+
+  module _ (h : i < length vs) where
+    xs : List (Run Endpoint)
+    xs = endedOf g (getD vs i 0) ps
+
+    rest : List (Run Endpoint)
+    rest = let n = movedOf g (getD vs i 0) undrawn in runsFrom (n .size) (drop (i + 1) vs) (drop (n .first .0) ps)
+
+    pub going-fits : Fits write undrawn (meshPiece o undrawn (runsFrom 0 vs ps)) l0 → Fits write (g .place) (meshPiece o (g .place) (endedOf g (getD vs i 0) ps)) l
+    unfolding xs rest
+    going-fits f = runs-front o xs rest (runs-back o (m .done) (xs ++ rest) (m .puts) (rw (pass-split vs ps i g (m .done) (m .passing) undrawn h) at f))
+
+    pub going-turn : {k : Place} {l1 : Lists} → Puts write (g .place) (meshPiece o (g .place) (endedOf g (getD vs i 0) ps)) l l1 k → Going write o vs ps l0 (i + 1) (movedOf g (getD vs i 0) k) l1
+    unfolding xs
+    going-turn {k} e = record {
+      done = m .done ++ xs;
+      passing = pass-turn vs ps i g (m .done) (m .passing) k h;
+      puts = rw (moved-place g (getD vs i 0) k ps) (runs-both o (m .done) xs (m .puts) e);
+    }
+
+  pub going-all : length vs ≤ i → Puts write undrawn (meshPiece o undrawn (runsFrom 0 vs ps)) l0 l (g .place)
+  going-all h = rw (pass-all vs ps i g (m .done) (m .passing) h) at (m .puts)

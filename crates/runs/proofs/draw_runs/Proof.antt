@@ -1,0 +1,72 @@
+-- `runs::draw_runs` meets its contract. Assumes nothing.
+use Rattle.runs.proofs.draw_runs.Statement.{statement}
+use borrow.Author.Needs.{needs}
+use Prim.Native.Nat.{_-_}
+use mathlib.Core.Path.{_≡_, refl}
+use native.Mathlib.Omega.{arith}
+use lib.ListN.{length}
+use Rattle.pieces.specs.Piece.{lent}
+use Rattle.kept.specs.Points.{endpointsOf}
+use Rattle.runs.proofs.Drawing.{Going, going-none, going-inside, going-fits, going-turn, going-all}
+use Rattle.runs.proofs.draw_runs.Tie as tie
+
+abbrev Inv-loop : tie.InvT-loop
+Inv-loop v₀ t₀ pass verbs coords g₀ i₀ v t g i = Going (pass .write) (pass .stroke) verbs (endpointsOf 0 coords) (lent v₀ t₀) i g (lent v t) × (length v ≡ length v₀) × (length t ≡ length t₀)
+
+abbrev μ-loop : tie.MeasureT-loop
+μ-loop v₀ t₀ pass verbs coords g₀ i₀ v t g i = length verbs - i
+
+-- from a call back to the one before it
+abbrev to-loop : tie.After-draw-verb Inv-loop μ-loop → tie.At-loop Inv-loop μ-loop
+to-loop c = c .before .before .before .before .before
+
+start-requires : tie.Need-start-requires Inv-loop μ-loop
+start-requires c κs = search needs
+
+loop-holds : tie.Need-loop-holds Inv-loop μ-loop
+loop-holds c = (rw (c .start .ensures) (going-none _ _ _ _ _), refl, refl)
+
+shared-slice-read-verb : tie.Need-shared-slice-read-verb Inv-loop μ-loop
+shared-slice-read-verb c = search needs
+
+draw-verb-requires : tie.Need-draw-verb-requires Inv-loop μ-loop
+draw-verb-requires c κs = (going-inside (c .before .before .before .before .loop .inv .0) (c .before .before .before .before .before .before .before .before .before .before .args .coords .now) (c .before .before .before .before .before .before .before .before .before .before .pre .0), going-fits (c .before .before .before .before .loop .inv .0) (c .before .before .before .loop-test .taken) (c .before .before .before .before .before .before .before .before .before .before .pre .1))
+
+moved-requires : tie.Need-moved-requires Inv-loop μ-loop
+moved-requires c κs = let a = going-inside (to-loop (c .before .before .before .before) .loop .inv .0) ((to-loop (c .before .before .before .before)) .before .before .before .before .before .before .args .coords .now) ((to-loop (c .before .before .before .before)) .before .before .before .before .before .before .pre .0) in omega (arith, a .end, a .few)
+
+add-i : tie.Need-add-i Inv-loop μ-loop
+add-i c = omega (arith, c .before .before .before .before .before .before .before .before .before .loop-test .taken, (to-loop (c .before .before .before .before .before)) .before .before .before .before .before .before .good .1 .1 .1 .0)
+
+loop-less : tie.Need-loop-less Inv-loop μ-loop
+loop-less c = omega (arith, c .before .before .before .before .before .before .before .before .before .loop-test .taken)
+
+loop-again : tie.Need-loop-again Inv-loop μ-loop
+loop-again c = (rw (c .moved .ensures) (going-turn (to-loop (c .before .before .before .before .before) .loop .inv .0) (c .before .before .before .before .before .before .before .before .before .loop-test .taken) (c .before .before .before .before .before .draw-verb .ensures)), search (needs, to-loop (c .before .before .before .before .before) .loop .inv .1), search (needs, to-loop (c .before .before .before .before .before) .loop .inv .2))
+
+same-length : tie.Need-same-length Inv-loop μ-loop
+same-length c = c .before .before .loop .inv .1
+
+same-length-2 : tie.Need-same-length-2 Inv-loop μ-loop
+same-length-2 c = c .before .before .loop .inv .2
+
+returns : tie.Need-returns Inv-loop μ-loop
+returns c = going-all (c .before .before .loop .inv .0) (c .before .loop-test .left)
+
+pub draw-runs-spec : {M : Type 1} → statement M
+draw-runs-spec =
+    tie.close
+    (tie.spec
+    Inv-loop
+    μ-loop
+    start-requires
+    loop-holds
+    shared-slice-read-verb
+    draw-verb-requires
+    moved-requires
+    add-i
+    loop-less
+    loop-again
+    same-length
+    same-length-2
+    returns)

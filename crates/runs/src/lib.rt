@@ -1,0 +1,90 @@
+// A pass over the runs of a path: each end verb ends a run, which is counted and, where the pass writes, drawn.
+mod cursor;
+
+use crate::cursor::Cursor;
+use crate::cursor::moved;
+use crate::cursor::start;
+use along::At;
+use along::Pass;
+use path::verbs::END_CLOSED;
+use path::verbs::names_point;
+use pieces::Index;
+use pieces::Place;
+use pieces::next_vertex;
+use run::draw_run;
+ghost use mathlib.Core.Bool.{cond};
+ghost use mathlib.Core.Path.{_≡_};
+ghost use Rattle.pieces.specs.Piece.{lent, Fits, Puts};
+ghost use Rattle.kept.specs.Points.{endpointsOf};
+ghost use Rattle.runs.specs.Runs.{runsOf, meshPiece};
+ghost use Rattle.runs.specs.Cursor.{undrawn, endedOf};
+ghost use Rattle.runs.specs.Passes.{Paired, Inside};
+
+// Where a pass that writes goes on; one that only counts is lent no places.
+fn place_of(write: bool, place: usize) -> usize
+    ensures { λ r. ⌜ r ≡ cond write place 0 ⌝ }
+{
+    if write {
+        return place;
+    }
+    0
+}
+
+// A verb that ends a run draws it, in the parts of the lists that begin where the last run ended.
+fn draw_verb(
+    v: &mut [f32],
+    t: &mut [Index],
+    pass: Pass,
+    coords: &[f32],
+    g: Cursor,
+    verb: u8,
+) -> Place
+    requires { ⌜ Inside g (now coords) ⌝ }
+    requires { ⌜ Fits (pass .write) (g .place) (meshPiece (pass .stroke) (g .place) (endedOf g verb (endpointsOf 0 (now coords)))) (lent (now v) (now t)) ⌝ }
+    ensures { λ r. ⌜ Puts (pass .write) (g .place) (meshPiece (pass .stroke) (g .place) (endedOf g verb (endpointsOf 0 (now (coords .entry))))) (lent (now (v .entry)) (now (t .entry))) (lent (now (v .exit)) (now (t .exit))) r ⌝ }
+{
+    let place = g.place;
+    if names_point(verb) {
+        return place;
+    }
+    let first = g.first;
+    let i = first.0 as usize;
+    let from = 2 * i;
+    let to = 2 * (i + g.size);
+    let a = place_of(pass.write, 5 * place.vertices);
+    let b = place_of(pass.write, 3 * place.triangles);
+    let at = At {
+        endpoint: first,
+        vertex: next_vertex(place),
+    };
+    let run = draw_run(
+        &mut v[a..],
+        &mut t[b..],
+        pass,
+        &coords[from..to],
+        at,
+        verb == END_CLOSED,
+    );
+    let base = place.base;
+    Place {
+        base,
+        vertices: place.vertices + run.vertices,
+        triangles: place.triangles + run.triangles,
+    }
+}
+
+pub fn draw_runs(v: &mut [f32], t: &mut [Index], pass: Pass, verbs: &[u8], coords: &[f32]) -> Place
+    requires { ⌜ Paired (now verbs) (now coords) ⌝ }
+    requires { ⌜ Fits (pass .write) undrawn (meshPiece (pass .stroke) undrawn (runsOf (now verbs) (now coords))) (lent (now v) (now t)) ⌝ }
+    ensures { λ r. ⌜ Puts (pass .write) undrawn (meshPiece (pass .stroke) undrawn (runsOf (now (verbs .entry)) (now (coords .entry)))) (lent (now (v .entry)) (now (t .entry))) (lent (now (v .exit)) (now (t .exit))) r ⌝ }
+{
+    let mut g = start();
+    let mut i: usize = 0;
+    while i < verbs.len() {
+        let verb = verbs[i];
+        let place = draw_verb(v, t, pass, coords, g, verb);
+        g = moved(g, verb, place);
+        i += 1;
+    }
+    g.place
+}
