@@ -8,7 +8,9 @@ use lib.Dec.{ltb, eqb}
 use lib.Ieee.{Float}
 use lib.ListN.{length, take, drop, length-append, length-take, length-drop}
 use borrow.Author.Tests.{le-ltb, ltb-false}
-use Rattle.refusals.specs.Numbers.{numberOf, accepted, vertexRoom, triangleRoom}
+use Rattle.refusals.specs.Numbers.{numberOf, verdictOf, accepted, vertexRoom, triangleRoom}
+use Rattle.refusals.specs.declared.Refusal.{Refusal}
+use Rattle.refusals.specs.declared.Refusal.the-variants.{OutOfRange, TooManyVerbs, Verb, Coordinate}
 use Rattle.plane.specs.Normal.{pick}
 use Rattle.endpoint.specs.declared.Endpoint.{Endpoint}
 use Rattle.lists.specs.Over.{over}
@@ -18,20 +20,21 @@ use Rattle.pieces.proofs.Pieces.{laid-start}
 use Rattle.path.specs.Path.{Sound}
 use Rattle.path.specs.Runs.{Run, runsFrom, pointsOf}
 use Rattle.path.specs.Verbs.{endClosed, names}
-use Rattle.path.specs.declared.options.Stroke.{Stroke}
+use Rattle.options.specs.declared.Stroke.{Stroke}
 use Rattle.path.proofs.Laws.{count-le}
-use Rattle.points.specs.Points.{endpointsOf}
-use Rattle.points.proofs.Indexed.{points-length}
-use Rattle.course.specs.Leg.{firstShort}
-use Rattle.drive.specs.Passes.{Paired, undrawn}
-use Rattle.drive.specs.Runs.{runsOf, meshVertices, meshCount, meshTriangles, meshPiece, meshEdges}
-use Rattle.drive.proofs.Runs.{length-vertices, runs-bounded}
+use Rattle.kept.specs.Points.{endpointsOf}
+use Rattle.kept.proofs.Indexed.{points-length}
+use Rattle.joints.specs.Leg.{firstShort}
+use Rattle.runs.specs.Cursor.{undrawn}
+use Rattle.runs.specs.Passes.{Paired}
+use Rattle.runs.specs.Runs.{runsOf, meshVertices, meshCount, meshTriangles, meshPiece, meshEdges, meshCounts}
+use Rattle.runs.proofs.Runs.{length-vertices, Bounded, runs-bounded}
 use Rattle.far.proofs.Path.{no-short}
 use Rattle.mesh.specs.Answer.{withCounts, meshAnswerOf, isMesh, roomedOf, judgedOf, Plenty}
-use Rattle.mesh.specs.Mesh.{Outcome, roomFor, acceptedOf}
+use Rattle.mesh.specs.Mesh.{Outcome, refused, roomFor, acceptedOf, onceAccepted}
 use Rattle.mesh.specs.Parts.{Prepared, Counted}
 use Rattle.mesh.specs.declared.answer.MeshAnswer.{MeshAnswer}
-use Rattle.mesh.specs.declared.answer.Meshed.the-variants.{Mesh}
+use Rattle.mesh.specs.declared.answer.Meshed.the-variants.{Mesh, Refused}
 
 pub sound-paired : (vs : List ℕ) (cs : List Float) → Sound vs cs → Paired vs cs
 sound-paired vs cs s = record { points = s .paired; few = omega (arith, s .paired, s .few, count-le vs) }
@@ -49,21 +52,25 @@ runs-points n (v ∷ vs) ps = go (names v) (runs-points (n + 1) vs ps) (runs-poi
         let d : length (pointsOf (runsFrom 0 vs (drop n ps))) ≤ length ps - n = simp length-drop at b in
         simp (length-append, length-take) (omega arith)
 
--- "Counts' bounds": four vertices to a point and no more triangles, so that a u16 holds every number
+-- "Counts' bounds", to a verb: so many vertices and no more triangles, so that a number in the triangle list holds every vertex's
 module _ (o : Stroke) (vs : List ℕ) (cs : List Float) (s : Sound vs cs) where
-  few-vertices : meshCount o (runsOf vs cs) ≤ 2 * length cs
-  few-vertices =
+  pub counts-bounded : Bounded (length vs) (meshCounts o (runsOf vs cs))
+  counts-bounded =
       let b = runs-bounded o (runsOf vs cs) in
-      omega (arith, b .vertices, runs-points 0 vs (endpointsOf 0 cs), points-length cs 0)
+      record { vertices = omega (arith, b .vertices, runs-points 0 vs (endpointsOf 0 cs), points-length cs 0, s .paired, count-le vs); triangles = b .triangles }
+
+  -- the same by the coordinates
+  few-vertices : meshCount o (runsOf vs cs) ≤ 2 * length cs
+  few-vertices = omega (arith, runs-bounded o (runsOf vs cs) .vertices, runs-points 0 vs (endpointsOf 0 cs), points-length cs 0)
 
   few-triangles : length (meshTriangles o 0 (runsOf vs cs)) ≤ 2 * length cs
-  few-triangles = let b = runs-bounded o (runsOf vs cs) in omega (arith, b .triangles, few-vertices)
+  few-triangles = omega (arith, counts-bounded .triangles, few-vertices)
 
   pub counts-fit : (l : Lists) → Fits false undrawn (meshPiece o undrawn (runsOf vs cs)) l
   counts-fit l =
-      let f = sound-paired vs cs s .few in
+      let b = counts-bounded in
       let n = length-vertices o (runsOf vs cs) in
-      record { numbers = omega (arith, few-vertices); faces = omega (arith, few-triangles); vertices = λ w. absurd (false≢true w); triangles = λ w. absurd (false≢true w) }
+      record { numbers = omega (arith, b .vertices, s .few); faces = omega (arith, b .vertices, b .triangles, s .few); vertices = λ w. absurd (false≢true w); triangles = λ w. absurd (false≢true w) }
 
   room-fits : (l : Lists) → meshCount o (runsOf vs cs) ≤ length (l .vertices) / 5 → length (meshTriangles o 0 (runsOf vs cs)) ≤ length (l .triangles) / 3
       → Fits true undrawn (meshPiece o undrawn (runsOf vs cs)) l
@@ -92,10 +99,10 @@ roomed-room n m nv nt e = go (ltb nv n) refl (ltb nt m) refl e
 
 module _ (o : Stroke) (vs : List ℕ) (cs : List Float) (s : Sound vs cs) (p : Prepared o) (l : Lists) where
   abbrev outcome : Outcome
-  outcome = acceptedOf (l .vertices) (l .triangles) o (runsOf vs cs)
+  outcome = acceptedOf l o (runsOf vs cs)
 
   -- no path earns refusal 5
-  room-is : roomFor (l .vertices) (l .triangles) o (runsOf vs cs) ≡ roomedOf (meshCount o (runsOf vs cs)) (length (meshTriangles o 0 (runsOf vs cs))) (length (l .vertices) / 5) (length (l .triangles) / 3)
+  room-is : roomFor l o (runsOf vs cs) ≡ roomedOf (meshCount o (runsOf vs cs)) (length (meshTriangles o 0 (runsOf vs cs))) (length (l .vertices) / 5) (length (l .triangles) / 3)
   unfolding judgedOf
   room-is =
       let e = no-short (p .options) o vs cs (p .is) s in
@@ -114,7 +121,7 @@ module _ (o : Stroke) (vs : List ℕ) (cs : List Float) (s : Sound vs cs) (p : P
     plenty-fits = room-fits o vs cs s l v-room t-room
 
     pub plenty-drawn : {l' : Lists} {k : Place} → Puts true undrawn (meshPiece o undrawn (runsOf vs cs)) l l' k
-        → record { answer = meshAnswerOf (Mesh (k .vertices) (k .triangles)); vertices = l' .vertices; triangles = l' .triangles } ≡ outcome
+        → record { answer = meshAnswerOf (Mesh (k .vertices) (k .triangles)); lists = l' } ≡ outcome
     unfolding acceptedOf
     plenty-drawn {l'} {k} e =
         let c = counts-are o (runsOf vs cs) k (e .place) in
@@ -125,7 +132,7 @@ module _ (o : Stroke) (vs : List ℕ) (cs : List Float) (s : Sound vs cs) (p : P
     count : (c .vertices ≡ meshCount o (runsOf vs cs)) × (c .triangles ≡ length (meshTriangles o 0 (runsOf vs cs)))
     count = counts-are o (runsOf vs cs) c (k .place)
 
-    answer-is : a ≡ roomFor (l .vertices) (l .triangles) o (runsOf vs cs)
+    answer-is : a ≡ roomFor l o (runsOf vs cs)
     answer-is = j ∙ rw (count .0, count .1) (sym room-is)
 
     pub mesh-fits : isMesh a ≡ true → Fits true undrawn (meshPiece o undrawn (runsOf vs cs)) l1
@@ -133,11 +140,11 @@ module _ (o : Stroke) (vs : List ℕ) (cs : List Float) (s : Sound vs cs) (p : P
         let r = roomed-room (c .vertices) (c .triangles) (length (l .vertices) / 5) (length (l .triangles) / 3) (ap isMesh (sym j) ∙ e) in
         rw (k .lists) (room-fits o vs cs s l (omega (arith, r .0, count .0)) (omega (arith, r .1, count .1)))
 
-    pub is-drawn : isMesh a ≡ true → {l2 : Lists} {d : Place} → Puts true undrawn (meshPiece o undrawn (runsOf vs cs)) l1 l2 d → record { answer = a; vertices = l2 .vertices; triangles = l2 .triangles } ≡ outcome
+    pub is-drawn : isMesh a ≡ true → {l2 : Lists} {d : Place} → Puts true undrawn (meshPiece o undrawn (runsOf vs cs)) l1 l2 d → record { answer = a; lists = l2 } ≡ outcome
     unfolding acceptedOf
     is-drawn e q = rw (answer-is, ap isMesh (sym answer-is) ∙ e, drawn-is o (runsOf vs cs) q, k .lists)
 
-    pub is-refused : isMesh a ≡ false → record { answer = a; vertices = l1 .vertices; triangles = l1 .triangles } ≡ outcome
+    pub is-refused : isMesh a ≡ false → record { answer = a; lists = l1 } ≡ outcome
     unfolding acceptedOf
     is-refused e = rw (answer-is, ap isMesh (sym answer-is) ∙ e, k .lists)
 
@@ -149,3 +156,10 @@ none-back xs (y ∷ ys) e = absurd (omega (arith, e))
 pub counted : (o : Stroke) (rs : List (Run Endpoint)) (v v2 : List Float) (t t2 : List ℕ) {l1 : Lists} {k : Place} → length v2 ≡ 0 → length t2 ≡ 0
     → Puts false undrawn (meshPiece o undrawn rs) l1 (lent v2 t2) k → Counted o rs (lent v t) (lent (v2 ++ v) (t2 ++ t)) k
 counted o rs v v2 t t2 lv lt e = record { place = e .place; lists = rw (none-back v v2 lv, none-back t t2 lt) }
+
+-- ---- refusals 1 to 4, whatever would come then
+pub refused-first : (l : Lists) (r : Refusal) (next : Outcome) → refused l (meshAnswerOf (Refused r)) ≡ onceAccepted l (verdictOf r .number) (verdictOf r .place) next
+refused-first l OutOfRange next = refl
+refused-first l TooManyVerbs next = refl
+refused-first l (Verb i) next = refl
+refused-first l (Coordinate i) next = refl

@@ -2,10 +2,10 @@
 use Prim.Native.Nat.{ℕ, _*_, _≤_}
 use mathlib.Core.Bool.{Bool, cond}
 use lib.Dec.{ltb, eqb}
-use Rattle.refusals.specs.Numbers.{numberOf, accepted, outOfRange, tooManyVerbs, misplacedVerb, badCoordinate, shortEdge, vertexRoom, triangleRoom}
-use Rattle.drive.specs.Runs.{Count}
+use Rattle.refusals.specs.Numbers.{numberOf, verdictOf, accepted, shortEdge, vertexRoom, triangleRoom}
+use Rattle.runs.specs.Runs.{Count}
 use Rattle.mesh.specs.declared.answer.Meshed.{Meshed}
-use Rattle.mesh.specs.declared.answer.Meshed.the-variants.{Mesh, OutOfRange, TooManyVerbs, Verb, Coordinate, ShortEdge, VertexRoom, TriangleRoom}
+use Rattle.mesh.specs.declared.answer.Meshed.the-variants.{Mesh, Refused, ShortEdge, VertexRoom, TriangleRoom}
 use Rattle.mesh.specs.declared.answer.MeshAnswer.{MeshAnswer}
 use Rattle.mesh.specs.declared.answer.Rooms.{Rooms}
 
@@ -19,10 +19,7 @@ withPlace number place = record { number = number; place = place; vertices = 0; 
 -- what each case of `tessellate`'s answer stands for: the number, the place and both counts
 abbrev pub meshAnswerOf : Meshed → MeshAnswer
 meshAnswerOf (Mesh n m) = withCounts (numberOf accepted) n m
-meshAnswerOf OutOfRange = withPlace (numberOf outOfRange) 0
-meshAnswerOf TooManyVerbs = withPlace (numberOf tooManyVerbs) 0
-meshAnswerOf (Verb i) = withPlace (numberOf misplacedVerb) i
-meshAnswerOf (Coordinate i) = withPlace (numberOf badCoordinate) i
+meshAnswerOf (Refused r) = let a = verdictOf r in withPlace (a .number) (a .place)
 meshAnswerOf (ShortEdge i) = withPlace (numberOf shortEdge) i
 meshAnswerOf (VertexRoom n m) = withCounts (numberOf vertexRoom) n m
 meshAnswerOf (TriangleRoom n m) = withCounts (numberOf triangleRoom) n m

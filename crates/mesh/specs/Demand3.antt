@@ -8,19 +8,19 @@ use lib.Ieee.{Float}
 use lib.ListN.{length, take, drop}
 use Rattle.refusals.specs.Numbers.{numberOf, accepted, vertexRoom, triangleRoom}
 use Rattle.endpoint.specs.declared.Endpoint.{Endpoint}
-use Rattle.path.specs.Options.{accepting, strokeOf}
+use Rattle.options.specs.Options.{accepting, strokeOf}
 use Rattle.path.specs.Path.{checkedOf}
 use Rattle.path.specs.Runs.{Run, verbsOf, pointsOf}
-use Rattle.path.specs.declared.options.Options.{Options}
-use Rattle.path.specs.declared.options.Stroke.{Stroke}
-use Rattle.points.specs.Points.{endpointsOf}
-use Rattle.course.specs.Joint.{jointsOf}
-use Rattle.course.specs.Kept.{keptPoints}
-use Rattle.pieces.specs.Piece.{flatV, flatT}
+use Rattle.options.specs.declared.Options.{Options}
+use Rattle.options.specs.declared.Stroke.{Stroke}
+use Rattle.kept.specs.Points.{endpointsOf}
+use Rattle.joints.specs.Joint.{jointsOf}
+use Rattle.kept.specs.Kept.{keptPoints}
+use Rattle.pieces.specs.Piece.{Lists, flatV, flatT}
 use Rattle.strip.specs.Joint.{pairSides}
 use Rattle.run.specs.Facts.{Counts, Covers}
 use Rattle.run.specs.Run.{drawsCap, shapeCount, shapeTriangles}
-use Rattle.drive.specs.Runs.{runsOf, drawnOf, meshVertices, meshCount, meshTriangles}
+use Rattle.runs.specs.Runs.{runsOf, drawnOf, meshVertices, meshCount, meshTriangles}
 use Rattle.mesh.specs.Answer.{withCounts}
 use Rattle.mesh.specs.Mesh.{Outcome, refused, outcomeOf}
 
@@ -33,8 +33,8 @@ pub record EarnsNone (verbs : List ℕ) (coords : List Float) (options : Options
 -- where it has more than one point); "each triangle names three different vertices of its run, every vertex is named, each triangle but a run's first shares
 -- exactly two vertices with the one before." A run whose vertices are numbered from base.
 pub record RunStands (o : Stroke) (base : ℕ) (r : Run Endpoint) : Type 0 where
-  pub counts : let kept = keptPoints (r .closed) (r .points) in
-      Counts (r .closed) (drawsCap o (r .closed) (ltb 1 (length (r .points)))) (length kept) (pairSides (jointsOf (r .closed) o kept))
+  pub counts : let kept = keptPoints (o .near) (r .closed) (r .points) in
+      Counts (r .closed) (drawsCap (o .cap) (r .closed) (ltb 1 (length (r .points)))) (length kept) (pairSides (jointsOf (r .closed) o kept))
       (shapeCount (drawnOf o r)) (length (shapeTriangles (r .closed) base (drawnOf o r)))
   pub covers : Covers base (base + shapeCount (drawnOf o r)) (shapeTriangles (r .closed) base (drawnOf o r))
 
@@ -44,23 +44,23 @@ AllStand o base [] = Unit
 AllStand o base (r ∷ rs) = RunStands o base r × AllStand o (base + shapeCount (drawnOf o r)) rs
 
 -- what a call leaves where there is room: the answer 0 with both counts, "exactly so many are written", and nothing behind them
-pub record Written (o : Stroke) (rs : List (Run Endpoint)) (v : List Float) (t : List ℕ) (out : Outcome) : Type 0 where
+pub record Written (o : Stroke) (rs : List (Run Endpoint)) (l : Lists) (out : Outcome) : Type 0 where
   pub answer : out .answer ≡ withCounts (numberOf accepted) (meshCount o rs) (length (meshTriangles o 0 rs))
-  pub vertices : take (5 * meshCount o rs) (out .vertices) ≡ flatV (meshVertices o rs)
-  pub triangles : take (3 * length (meshTriangles o 0 rs)) (out .triangles) ≡ flatT (meshTriangles o 0 rs)
-  pub vertices-behind : drop (5 * meshCount o rs) (out .vertices) ≡ drop (5 * meshCount o rs) v
-  pub triangles-behind : drop (3 * length (meshTriangles o 0 rs)) (out .triangles) ≡ drop (3 * length (meshTriangles o 0 rs)) t
+  pub vertices : take (5 * meshCount o rs) (out .lists .vertices) ≡ flatV (meshVertices o rs)
+  pub triangles : take (3 * length (meshTriangles o 0 rs)) (out .lists .triangles) ≡ flatT (meshTriangles o 0 rs)
+  pub vertices-behind : drop (5 * meshCount o rs) (out .lists .vertices) ≡ drop (5 * meshCount o rs) (l .vertices)
+  pub triangles-behind : drop (3 * length (meshTriangles o 0 rs)) (out .lists .triangles) ≡ drop (3 * length (meshTriangles o 0 rs)) (l .triangles)
 
 -- "refused for want of room exactly when a list is too short for the numbers, and the refusal states both; otherwise exactly so many are written"
-pub record Rooms (o : Stroke) (rs : List (Run Endpoint)) (v : List Float) (t : List ℕ) (out : Outcome) : Type 0 where
-  pub few-vertices : length v < 5 * meshCount o rs → out ≡ refused v t (withCounts (numberOf vertexRoom) (meshCount o rs) (length (meshTriangles o 0 rs)))
-  pub few-triangles : 5 * meshCount o rs ≤ length v → length t < 3 * length (meshTriangles o 0 rs)
-      → out ≡ refused v t (withCounts (numberOf triangleRoom) (meshCount o rs) (length (meshTriangles o 0 rs)))
-  pub enough : 5 * meshCount o rs ≤ length v → 3 * length (meshTriangles o 0 rs) ≤ length t → Written o rs v t out
+pub record Roomed (o : Stroke) (rs : List (Run Endpoint)) (l : Lists) (out : Outcome) : Type 0 where
+  pub few-vertices : length (l .vertices) < 5 * meshCount o rs → out ≡ refused l (withCounts (numberOf vertexRoom) (meshCount o rs) (length (meshTriangles o 0 rs)))
+  pub few-triangles : 5 * meshCount o rs ≤ length (l .vertices) → length (l .triangles) < 3 * length (meshTriangles o 0 rs)
+      → out ≡ refused l (withCounts (numberOf triangleRoom) (meshCount o rs) (length (meshTriangles o 0 rs)))
+  pub enough : 5 * meshCount o rs ≤ length (l .vertices) → 3 * length (meshTriangles o 0 rs) ≤ length (l .triangles) → Written o rs l out
 
-pub record Demand3 (verbs : List ℕ) (coords : List Float) (options : Options) (o : Stroke) (v : List Float) (t : List ℕ) : Type 0 where
+pub record Demand3 (verbs : List ℕ) (coords : List Float) (options : Options) (o : Stroke) (l : Lists) : Type 0 where
   -- the runs are the whole path, in order
   pub verbs-are : verbsOf (runsOf verbs coords) ≡ verbs
   pub points-are : pointsOf (runsOf verbs coords) ≡ endpointsOf 0 coords
   pub each : AllStand o 0 (runsOf verbs coords)
-  pub rooms : Rooms o (runsOf verbs coords) v t (outcomeOf verbs coords options v t)
+  pub rooms : Roomed o (runsOf verbs coords) l (outcomeOf verbs coords options l)

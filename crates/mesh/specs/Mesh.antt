@@ -8,35 +8,39 @@ use lib.ListN.{length}
 use Rattle.refusals.specs.Numbers.{numberOf, accepted}
 use Rattle.endpoint.specs.declared.Endpoint.{Endpoint}
 use Rattle.lists.specs.Over.{over}
-use Rattle.path.specs.Options.{strokeOf}
+use Rattle.options.specs.Options.{strokeOf}
 use Rattle.path.specs.Path.{checkedOf}
 use Rattle.path.specs.Runs.{Run}
-use Rattle.path.specs.declared.options.Options.{Options}
-use Rattle.path.specs.declared.options.Stroke.{Stroke}
-use Rattle.pieces.specs.Piece.{flatV, flatT}
-use Rattle.drive.specs.Runs.{runsOf, meshVertices, meshTriangles, meshCounts}
-use Rattle.mesh.specs.Answer.{withPlace, isMesh, judgedOf}
+use Rattle.options.specs.declared.Options.{Options}
+use Rattle.options.specs.declared.Stroke.{Stroke}
+use Rattle.pieces.specs.Piece.{Lists, lent, flatV, flatT}
+use Rattle.runs.specs.Runs.{runsOf, meshVertices, meshTriangles, meshCounts}
+use Rattle.mesh.specs.Answer.{meshAnswerOf, withPlace, isMesh, judgedOf}
+use Rattle.mesh.specs.declared.answer.Meshed.{Meshed}
 use Rattle.mesh.specs.declared.answer.MeshAnswer.{MeshAnswer}
 
--- the numbers of an answer, and the vertex list and the triangle list after the call
+-- the numbers of an answer, and the lent lists after the call
 pub record Outcome : Type 0 where
   pub answer : MeshAnswer
-  pub vertices : List Float
-  pub triangles : List ℕ
+  pub lists : Lists
+
+-- what a call left that answered so
+abbrev pub answered : Meshed → List Float → List ℕ → Outcome
+answered r v t = record { answer = meshAnswerOf r; lists = lent v t }
 
 -- the lists that are lent
-module _ (v : List Float) (t : List ℕ) where
+module _ (l : Lists) where
   -- "A refusal leaves all lent lists .. as before the call."
   abbrev pub refused : MeshAnswer → Outcome
-  refused answer = record { answer = answer; vertices = v; triangles = t }
+  refused answer = record { answer = answer; lists = l }
 
   -- "Room is the list's length over 5 or 3, rounded down."
   abbrev pub roomFor : Stroke → List (Run Endpoint) → MeshAnswer
-  roomFor o rs = judgedOf (meshCounts o rs) (length v / 5) (length t / 3)
+  roomFor o rs = judgedOf (meshCounts o rs) (length (l .vertices) / 5) (length (l .triangles) / 3)
 
   -- "After 0, list places beyond those counted keep their contents."
   abbrev pub drawn : Stroke → List (Run Endpoint) → Outcome
-  drawn o rs = record { answer = roomFor o rs; vertices = over (flatV (meshVertices o rs)) v; triangles = over (flatT (meshTriangles o 0 rs)) t }
+  drawn o rs = record { answer = roomFor o rs; lists = lent (over (flatV (meshVertices o rs)) (l .vertices)) (over (flatT (meshTriangles o 0 rs)) (l .triangles)) }
 
   -- of an accepted path
   unfoldable pub acceptedOf : Stroke → List (Run Endpoint) → Outcome
@@ -51,5 +55,5 @@ module _ (v : List Float) (t : List ℕ) where
   strokedOf verbs coords o = let a = checkedOf verbs coords in onceAccepted (a .number) (a .place) (acceptedOf o (runsOf verbs coords))
 
 -- refusal 1
-unfoldable pub outcomeOf : List ℕ → List Float → Options → List Float → List ℕ → Outcome
-outcomeOf verbs coords options v t = let a = strokeOf options in onceAccepted v t (a .number) (a .place) (strokedOf v t verbs coords (a .stroke))
+unfoldable pub outcomeOf : List ℕ → List Float → Options → Lists → Outcome
+outcomeOf verbs coords options l = let a = strokeOf options in onceAccepted l (a .number) (a .place) (strokedOf l verbs coords (a .stroke))

@@ -4,12 +4,12 @@ use mathlib.Core.List.{List}
 use Rattle.endpoint.specs.declared.Endpoint.{Endpoint}
 use Rattle.pieces.specs.Piece.{Lists, behind}
 use Rattle.pieces.specs.declared.Place.{Place}
-use Rattle.path.specs.Options.{accepting, strokeOf}
+use Rattle.options.specs.Options.{accepting, strokeOf}
 use Rattle.path.specs.Runs.{Run}
-use Rattle.path.specs.declared.options.Options.{Options}
-use Rattle.path.specs.declared.options.Stroke.{Stroke}
-use Rattle.drive.specs.Passes.{undrawn}
-use Rattle.drive.specs.Runs.{meshPiece}
+use Rattle.options.specs.declared.Options.{Options}
+use Rattle.options.specs.declared.Stroke.{Stroke}
+use Rattle.runs.specs.Cursor.{undrawn}
+use Rattle.runs.specs.Runs.{meshPiece}
 
 -- ---- what the parts of the call know and do
 -- o is what the options of a call come to

@@ -1,5 +1,11 @@
 // What the mesh call answers.
 use pieces::Place;
+use refusals::ACCEPTED;
+use refusals::Refusal;
+use refusals::SHORT_EDGE;
+use refusals::TRIANGLE_ROOM;
+use refusals::VERTEX_ROOM;
+use refusals::verdict_of;
 ghost use mathlib.Core.Bool.{true};
 ghost use mathlib.Core.Path.{_≡_};
 ghost use Rattle.mesh.specs.Answer.{meshAnswerOf, withCounts, withPlace, isMesh, roomedOf, Plenty};
@@ -7,14 +13,8 @@ ghost use Rattle.mesh.specs.Answer.{meshAnswerOf, withCounts, withPlace,
 // A mesh, or the first refusal by number. A mesh and the refusals for want of room have both counts: vertices, then triangles.
 pub enum Meshed {
     Mesh(usize, usize),
-    // Refusal 1: an option outside its range.
-    OutOfRange,
-    // Refusal 2.
-    TooManyVerbs,
-    // Refusal 3, at the first unknown or misplaced verb, else at the number of verbs.
-    Verb(usize),
-    // Refusal 4, at the first coordinate that is not finite or too large.
-    Coordinate(usize),
+    // Refusals 1 to 4.
+    Refused(Refusal),
     // Refusal 5, at the first edge that is too short.
     ShortEdge(usize),
     // Refusal 6: too few vertex places.
@@ -64,7 +64,7 @@ pub fn fits(answer: Meshed) -> bool
     ensures { λ r. ⌜ r ≡ isMesh (meshAnswerOf answer) ⌝ }
 {
     let a = mesh_answer_of(answer);
-    a.number == 0
+    a.number == ACCEPTED
 }
 
 // The number, the place and both counts that an answer stands for.
@@ -72,14 +72,14 @@ pub fn mesh_answer_of(answer: Meshed) -> MeshAnswer
     ensures { λ r. ⌜ r ≡ meshAnswerOf answer ⌝ }
 {
     match answer {
-        Meshed::Mesh(n, m) => with_counts(0, n, m),
-        Meshed::OutOfRange => with_place(1, 0),
-        Meshed::TooManyVerbs => with_place(2, 0),
-        Meshed::Verb(place) => with_place(3, place),
-        Meshed::Coordinate(place) => with_place(4, place),
-        Meshed::ShortEdge(place) => with_place(5, place),
-        Meshed::VertexRoom(n, m) => with_counts(6, n, m),
-        Meshed::TriangleRoom(n, m) => with_counts(7, n, m),
+        Meshed::Mesh(n, m) => with_counts(ACCEPTED, n, m),
+        Meshed::Refused(r) => {
+            let verdict = verdict_of(r);
+            with_place(verdict.number, verdict.place)
+        }
+        Meshed::ShortEdge(place) => with_place(SHORT_EDGE, place),
+        Meshed::VertexRoom(n, m) => with_counts(VERTEX_ROOM, n, m),
+        Meshed::TriangleRoom(n, m) => with_counts(TRIANGLE_ROOM, n, m),
     }
 }
 

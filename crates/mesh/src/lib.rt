@@ -6,41 +6,44 @@ use crate::answer::Rooms;
 use crate::answer::fits;
 use crate::answer::is_plenty;
 use crate::answer::judged;
-use drive::draw_runs::draw_runs;
+use along::Pass;
+use options::Options;
+use options::Stroke;
+use options::Stroked;
+use options::stroke_of;
 use path::Checked;
 use path::check_path;
-use path::options::Options;
-use path::options::Stroke;
-use path::options::Stroked;
-use path::options::stroke_of;
 use pieces::Index;
 use pieces::Place;
+use runs::draw_runs;
 ghost use mathlib.Core.Path.{_≡_};
 ghost use Rattle.pieces.specs.Piece.{lent};
 ghost use Rattle.path.specs.Path.{Sound};
-ghost use Rattle.drive.specs.Runs.{runsOf};
-ghost use Rattle.mesh.specs.Answer.{meshAnswerOf};
-ghost use Rattle.mesh.specs.Mesh.{acceptedOf, strokedOf, outcomeOf};
+ghost use Rattle.runs.specs.Runs.{runsOf};
+ghost use Rattle.mesh.specs.Mesh.{answered, acceptedOf, strokedOf, outcomeOf};
 ghost use Rattle.mesh.specs.Parts.{Prepared, Counted};
 
 // What an accepted path needs, counted by a pass that is lent no places.
 fn count_accepted(
     verbs: &[u8],
     coords: &[f32],
-    o: Stroke,
+    stroke: Stroke,
     vertices: &mut [f32],
     triangles: &mut [Index],
 ) -> Place
     requires { ⌜ Sound (now verbs) (now coords) ⌝ }
-    ensures { λ r. ⌜ Counted o (runsOf (now (verbs .entry)) (now (coords .entry))) (lent (now (vertices .entry)) (now (triangles .entry))) (lent (now (vertices .exit)) (now (triangles .exit))) r ⌝ }
+    ensures { λ r. ⌜ Counted stroke (runsOf (now (verbs .entry)) (now (coords .entry))) (lent (now (vertices .entry)) (now (triangles .entry))) (lent (now (vertices .exit)) (now (triangles .exit))) r ⌝ }
 {
+    let count = Pass {
+        stroke,
+        write: false,
+    };
     draw_runs(
         &mut vertices[..0],
         &mut triangles[..0],
-        o,
+        count,
         verbs,
         coords,
-        false,
     )
 }
 
@@ -48,26 +51,30 @@ fn count_accepted(
 fn mesh_accepted(
     verbs: &[u8],
     coords: &[f32],
-    o: Stroke,
+    stroke: Stroke,
     vertices: &mut [f32],
     triangles: &mut [Index],
 ) -> Meshed
-    requires { ⌜ Prepared o ⌝ }
+    requires { ⌜ Prepared stroke ⌝ }
     requires { ⌜ Sound (now verbs) (now coords) ⌝ }
-    ensures { λ r. ⌜ record { answer = meshAnswerOf r; vertices = now (vertices .exit); triangles = now (triangles .exit) } ≡ acceptedOf (now (vertices .entry)) (now (triangles .entry)) o (runsOf (now (verbs .entry)) (now (coords .entry))) ⌝ }
+    ensures { λ r. ⌜ answered r (now (vertices .exit)) (now (triangles .exit)) ≡ acceptedOf (lent (now (vertices .entry)) (now (triangles .entry))) stroke (runsOf (now (verbs .entry)) (now (coords .entry))) ⌝ }
 {
     let rooms = Rooms {
         vertices: vertices.len() / 5,
         triangles: triangles.len() / 3,
     };
+    let draw = Pass {
+        stroke,
+        write: true,
+    };
     if is_plenty(rooms, coords.len()) {
-        let d = draw_runs(vertices, triangles, o, verbs, coords, true);
+        let d = draw_runs(vertices, triangles, draw, verbs, coords);
         return Meshed::Mesh(d.vertices, d.triangles);
     }
-    let c = count_accepted(verbs, coords, o, vertices, triangles);
+    let c = count_accepted(verbs, coords, stroke, vertices, triangles);
     let answer = judged(c, rooms);
     if fits(answer) {
-        draw_runs(vertices, triangles, o, verbs, coords, true);
+        draw_runs(vertices, triangles, draw, verbs, coords);
     }
     answer
 }
@@ -75,18 +82,16 @@ fn mesh_accepted(
 fn mesh_stroked(
     verbs: &[u8],
     coords: &[f32],
-    o: Stroke,
+    stroke: Stroke,
     vertices: &mut [f32],
     triangles: &mut [Index],
 ) -> Meshed
-    requires { ⌜ Prepared o ⌝ }
-    ensures { λ r. ⌜ record { answer = meshAnswerOf r; vertices = now (vertices .exit); triangles = now (triangles .exit) } ≡ strokedOf (now (vertices .entry)) (now (triangles .entry)) (now (verbs .entry)) (now (coords .entry)) o ⌝ }
+    requires { ⌜ Prepared stroke ⌝ }
+    ensures { λ r. ⌜ answered r (now (vertices .exit)) (now (triangles .exit)) ≡ strokedOf (lent (now (vertices .entry)) (now (triangles .entry))) (now (verbs .entry)) (now (coords .entry)) stroke ⌝ }
 {
     match check_path(verbs, coords) {
-        Checked::Accepted => mesh_accepted(verbs, coords, o, vertices, triangles),
-        Checked::TooManyVerbs => Meshed::TooManyVerbs,
-        Checked::Verb(place) => Meshed::Verb(place),
-        Checked::Coordinate(place) => Meshed::Coordinate(place),
+        Checked::Accepted => mesh_accepted(verbs, coords, stroke, vertices, triangles),
+        Checked::Refused(r) => Meshed::Refused(r),
     }
 }
 
@@ -99,10 +104,10 @@ pub fn tessellate(
     vertices: &mut [f32],
     triangles: &mut [Index],
 ) -> Meshed
-    ensures { λ r. ⌜ record { answer = meshAnswerOf r; vertices = now (vertices .exit); triangles = now (triangles .exit) } ≡ outcomeOf (now (verbs .entry)) (now (coords .entry)) options (now (vertices .entry)) (now (triangles .entry)) ⌝ }
+    ensures { λ r. ⌜ answered r (now (vertices .exit)) (now (triangles .exit)) ≡ outcomeOf (now (verbs .entry)) (now (coords .entry)) options (lent (now (vertices .entry)) (now (triangles .entry))) ⌝ }
 {
     match stroke_of(options) {
-        Stroked::Stroke(o) => mesh_stroked(verbs, coords, o, vertices, triangles),
-        Stroked::Refused => Meshed::OutOfRange,
+        Stroked::Stroke(stroke) => mesh_stroked(verbs, coords, stroke, vertices, triangles),
+        Stroked::Refused(r) => Meshed::Refused(r),
     }
 }

@@ -11,16 +11,17 @@ use Rattle.lines.specs.Placed.{Puts}
 use Rattle.reader.specs.Outcome as reader
 use Rattle.reader.specs.Reads.{Reads}
 use Rattle.reader.specs.declared.answer.ReadAnswer.{ReadAnswer}
+use Rattle.pieces.specs.Piece.{lent}
 use Rattle.mesh.specs.Mesh as mesh
 use Rattle.mesh.specs.declared.answer.MeshAnswer.{MeshAnswer}
 use Rattle.page.specs.Page.{optionsOf, verbRoom, coordRoom, vertexRoom, triangleRoom, meshPage, refusedPage, meshPageOf, readPageOf, PutsPage}
 use Rattle.page.proofs.Rooms.{mesh-roomy, read-roomy}
 
 -- ---- what is counted fits into the program's rooms
-pub mesh-within : (vs : List ℕ) (cs : List Float) {o : mesh.Outcome} → o ≡ mesh.outcomeOf vs cs optionsOf vertexRoom triangleRoom
+pub mesh-within : (vs : List ℕ) (cs : List Float) {o : mesh.Outcome} → o ≡ mesh.outcomeOf vs cs optionsOf (lent vertexRoom triangleRoom)
     → {a : MeshAnswer} → a ≡ o .answer → a .number ≡ 0 → (a .vertices ≤ 1024) × (a .triangles ≤ 1536)
 mesh-within vs cs {o} h {a} e n =
-    let r = (rw (← h, ← e) at (mesh-roomy vertexRoom triangleRoom vs cs optionsOf)) n in
+    let r = (rw (← h, ← e) at (mesh-roomy (lent vertexRoom triangleRoom) vs cs optionsOf)) n in
     (omega (arith, r .0, length-replicate (5 * 1024) (ofBits binary32 0)), omega (arith, r .1, length-replicate {A = ℕ} (3 * 1536) 0))
 
 pub read-within : {s : List ℕ} {o : reader.Outcome} → Reads s verbRoom coordRoom o → {a : ReadAnswer} → a ≡ o .answer → a .number ≡ 0
@@ -37,7 +38,7 @@ module _ {xs ys : List ℕ} {k i : ℕ} where
     unfolding meshPageOf
     mesh-refused n q = rw (← h, ← e, n) q
 
-    pub mesh-drawn : eqb (a .number) 0 ≡ true → Puts (meshPage (a .vertices) (a .triangles) (o .vertices) (o .triangles)) k xs i ys → Puts (meshPageOf p) k xs i ys
+    pub mesh-drawn : eqb (a .number) 0 ≡ true → Puts (meshPage (a .vertices) (a .triangles) (o .lists .vertices) (o .lists .triangles)) k xs i ys → Puts (meshPageOf p) k xs i ys
     unfolding meshPageOf
     mesh-drawn n q = rw (← h, ← e, n) q
 
@@ -52,6 +53,6 @@ module _ {s xs ys : List ℕ} {i : ℕ} {o : reader.Outcome} (reads : Reads s ve
     read-refused n p = page-of (rw (← e, n) p)
 
     pub read-stroked : eqb (a .number) 0 ≡ true
-        → Puts (meshPageOf (mesh.outcomeOf (take (a .verbs) (o .verbs)) (take (a .coords) (o .coords)) optionsOf vertexRoom triangleRoom)) 0 xs i ys → PutsPage s xs i ys
+        → Puts (meshPageOf (mesh.outcomeOf (take (a .verbs) (o .verbs)) (take (a .coords) (o .coords)) optionsOf (lent vertexRoom triangleRoom))) 0 xs i ys → PutsPage s xs i ys
     unfolding readPageOf
     read-stroked n p = page-of (rw (← e, n) p)

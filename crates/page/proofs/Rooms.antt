@@ -9,59 +9,60 @@ use lib.Dec.{ltb, eqb}
 use lib.Ieee.{Float}
 use lib.ListN.{length}
 use Rattle.endpoint.specs.declared.Endpoint.{Endpoint}
-use Rattle.path.specs.Options.{strokeOf}
+use Rattle.options.specs.Options.{strokeOf}
 use Rattle.path.specs.Path.{checkedOf}
 use Rattle.path.specs.Runs.{Run}
-use Rattle.path.specs.Verbs.{verbLimit}
-use Rattle.path.specs.declared.options.Options.{Options}
-use Rattle.path.specs.declared.options.Stroke.{Stroke}
-use Rattle.drive.specs.Runs.{runsOf, meshCounts}
+use Rattle.path.specs.Limits.{verbLimit}
+use Rattle.options.specs.declared.Options.{Options}
+use Rattle.options.specs.declared.Stroke.{Stroke}
+use Rattle.runs.specs.Runs.{runsOf, meshCounts}
 use Rattle.reader.specs.Outcome as reader
 use Rattle.reader.specs.Reads.{Reads, too-long, out-of-form, too-large, no-room, path, verbsIn, coordsIn}
+use Rattle.pieces.specs.Piece.{Lists}
 use Rattle.mesh.specs.Answer.{isMesh, withCounts, withPlace, judgedOf}
 use Rattle.mesh.specs.Mesh.{Outcome, refused, drawn, roomFor, acceptedOf, onceAccepted, strokedOf, outcomeOf}
 use Rattle.mesh.specs.declared.answer.MeshAnswer.{MeshAnswer}
 
 -- ---- the mesh call
-module _ (v : List Float) (t : List ℕ) where
+module _ (l : Lists) where
   abbrev pub Roomy : MeshAnswer → Type 0
-  Roomy a = a .number ≡ 0 → (a .vertices ≤ length v / 5) × (a .triangles ≤ length t / 3)
+  Roomy a = a .number ≡ 0 → (a .vertices ≤ length (l .vertices) / 5) × (a .triangles ≤ length (l .triangles) / 3)
 
-  room-roomy : (o : Stroke) (rs : List (Run Endpoint)) → Roomy (roomFor v t o rs)
+  room-roomy : (o : Stroke) (rs : List (Run Endpoint)) → Roomy (roomFor l o rs)
   unfolding judgedOf
   room-roomy o rs =
       let c = meshCounts o rs in
-      by (c .short) (c .vertices) (c .triangles) (ltb (c .short) (c .legs)) (ltb (length v / 5) (c .vertices)) (ltb (length t / 3) (c .triangles)) (ltb-false _ _) (ltb-false _ _)
+      by (c .short) (c .vertices) (c .triangles) (ltb (c .short) (c .legs)) (ltb (length (l .vertices) / 5) (c .vertices)) (ltb (length (l .triangles) / 3) (c .triangles)) (ltb-false _ _) (ltb-false _ _)
     where
-      by : (i n m : ℕ) (short few fewer : Bool) → (few ≡ false → n ≤ length v / 5) → (fewer ≡ false → m ≤ length t / 3)
+      by : (i n m : ℕ) (short few fewer : Bool) → (few ≡ false → n ≤ length (l .vertices) / 5) → (fewer ≡ false → m ≤ length (l .triangles) / 3)
           → Roomy (cond short (withPlace 5 i) (cond few (withCounts 6 n m) (cond fewer (withCounts 7 n m) (withCounts 0 n m))))
       by i n m true few fewer h g e = absurd (omega arith)
       by i n m false true fewer h g e = absurd (omega arith)
       by i n m false false true h g e = absurd (omega arith)
       by i n m false false false h g e = (h refl, g refl)
 
-  accepted-roomy : (o : Stroke) (rs : List (Run Endpoint)) → Roomy (acceptedOf v t o rs .answer)
+  accepted-roomy : (o : Stroke) (rs : List (Run Endpoint)) → Roomy (acceptedOf l o rs .answer)
   unfolding acceptedOf
-  accepted-roomy o rs = by (isMesh (roomFor v t o rs))
+  accepted-roomy o rs = by (isMesh (roomFor l o rs))
     where
-      by : (b : Bool) → Roomy (cond b (drawn v t o rs) (refused v t (roomFor v t o rs)) .answer)
+      by : (b : Bool) → Roomy (cond b (drawn l o rs) (refused l (roomFor l o rs)) .answer)
       by true = room-roomy o rs
       by false = room-roomy o rs
 
   -- what is refused before is no 0
-  once-roomy : (number place : ℕ) (next : Outcome) → Roomy (next .answer) → Roomy (onceAccepted v t number place next .answer)
+  once-roomy : (number place : ℕ) (next : Outcome) → Roomy (next .answer) → Roomy (onceAccepted l number place next .answer)
   once-roomy number place next h = by (eqb number 0) (eq-eqb number 0)
     where
-      by : (b : Bool) → (number ≡ 0 → b ≡ true) → Roomy (cond b next (refused v t (withPlace number place)) .answer)
+      by : (b : Bool) → (number ≡ 0 → b ≡ true) → Roomy (cond b next (refused l (withPlace number place)) .answer)
       by true k = h
       by false k = λ e. absurd (false≢true (k e))
 
-  pub mesh-roomy : (vs : List ℕ) (cs : List Float) (o : Options) → Roomy (outcomeOf vs cs o v t .answer)
+  pub mesh-roomy : (vs : List ℕ) (cs : List Float) (o : Options) → Roomy (outcomeOf vs cs o l .answer)
   unfolding outcomeOf strokedOf
   mesh-roomy vs cs o =
       let a = strokeOf o in
       let b = checkedOf vs cs in
-      once-roomy (a .number) (a .place) (strokedOf v t vs cs (a .stroke)) (once-roomy (b .number) (b .place) (acceptedOf v t (a .stroke) (runsOf vs cs)) (accepted-roomy (a .stroke) (runsOf vs cs)))
+      once-roomy (a .number) (a .place) (strokedOf l vs cs (a .stroke)) (once-roomy (b .number) (b .place) (acceptedOf l (a .stroke) (runsOf vs cs)) (accepted-roomy (a .stroke) (runsOf vs cs)))
 
 -- ---- the reader
 pub read-roomy : (s v : List ℕ) (c : List Float) (o : reader.Outcome) → Reads s v c o

@@ -12,9 +12,10 @@ use Rattle.refusals.specs.Numbers.{numberOf, accepted}
 use Rattle.lists.specs.Over.{over}
 use Rattle.lines.specs.Digits.{decimalOf}
 use Rattle.lines.specs.Floats.{floatHex}
-use Rattle.path.specs.declared.options.Options.{Options}
+use Rattle.options.specs.declared.Options.{Options}
 use Rattle.reader.specs.Outcome as reader
 use Rattle.reader.specs.Reads.{Reads}
+use Rattle.pieces.specs.Piece.{lent}
 use Rattle.mesh.specs.Mesh as mesh
 
 -- "width 2, limit 4, Miter, Butt"
@@ -70,13 +71,13 @@ refusedPage number place = line (bytes "refused") (decimalOf number ∷ decimalO
 unfoldable pub meshPageOf : mesh.Outcome → List ℕ
 meshPageOf o =
     let a = o .answer in
-    cond (eqb (a .number) (numberOf accepted)) (meshPage (a .vertices) (a .triangles) (o .vertices) (o .triangles)) (refusedPage (a .number) (a .place))
+    cond (eqb (a .number) (numberOf accepted)) (meshPage (a .vertices) (a .triangles) (o .lists .vertices) (o .lists .triangles)) (refusedPage (a .number) (a .place))
 
 -- of what the reader answered and left in its lists: its path is stroked
 unfoldable pub readPageOf : reader.Outcome → List ℕ
 readPageOf o =
     let a = o .answer in
-    cond (eqb (a .number) (numberOf accepted)) (meshPageOf (mesh.outcomeOf (take (a .verbs) (o .verbs)) (take (a .coords) (o .coords)) optionsOf vertexRoom triangleRoom))
+    cond (eqb (a .number) (numberOf accepted)) (meshPageOf (mesh.outcomeOf (take (a .verbs) (o .verbs)) (take (a .coords) (o .coords)) optionsOf (lent vertexRoom triangleRoom)))
     (refusedPage (a .number) (a .place))
 
 -- The page of the bytes s. The reader allows one outcome, so there is one page: `one-page` of proofs/Unique.antt.

@@ -6,12 +6,13 @@ use crate::line::put_refused;
 use crate::mesh_lines::put_mesh;
 use mesh::answer::mesh_answer_of;
 use mesh::tessellate;
-use path::options::Options;
+use options::Options;
 use reader::answer::read_answer_of;
 use reader::read;
 ghost use mathlib.Core.Path.{_≡_};
 ghost use Prim.Native.Nat.{_≤_};
 ghost use Rattle.lines.specs.Placed.{Puts};
+ghost use Rattle.pieces.specs.Piece.{lent};
 ghost use Rattle.mesh.specs.Mesh as mesh;
 ghost use Rattle.page.specs.Page.{optionsOf, vertexRoom, triangleRoom, meshPageOf, PutsPage};
 
@@ -48,7 +49,7 @@ pub fn put_page(text: &[u8], out: &mut Page) -> usize
 
 // The page of a path.
 fn put_stroked(verbs: &[u8], coords: &[f32], out: &mut Page) -> usize
-    ensures { λ r. ⌜ Puts (meshPageOf (mesh.outcomeOf (now (verbs .entry)) (now (coords .entry)) optionsOf vertexRoom triangleRoom)) 0 (now (out .entry)) r (now (out .exit)) ⌝ }
+    ensures { λ r. ⌜ Puts (meshPageOf (mesh.outcomeOf (now (verbs .entry)) (now (coords .entry)) optionsOf (lent vertexRoom triangleRoom))) 0 (now (out .entry)) r (now (out .exit)) ⌝ }
     ensures { λ r. ⌜ r ≤ 65536 ⌝ }
 {
     let mut vertices = [0.0f32; VERTEX_ROOM];

@@ -1,21 +1,24 @@
 -- The numbers of an answer tell its case: two cases of an enum that stand for the same numbers and values are the same, since each can be read back
 -- from them. Root's and the window's are in their own crates (`one-case`, `one-got`, `one-change`). Assumes nothing.
 use mathlib.Core.Path.{_≡_, refl, sym, ap, _∙_}
+use Prim.Native.Nat.{ℕ}
 use mathlib.Core.Bool.{cond}
 use lib.Dec.{eqb}
-use Rattle.refusals.specs.Numbers.{numberOf, accepted, outOfRange, tooManyVerbs, misplacedVerb, badCoordinate, shortEdge, vertexRoom, longText, malformedText, largeNumber}
+use Rattle.refusals.specs.Numbers.{numberOf, accepted, outOfRange, tooManyVerbs, misplacedVerb, shortEdge, vertexRoom, longText, malformedText, largeNumber, triangleRoom}
 use Rattle.plane.specs.Normal.{normalAnswerOf}
 use Rattle.plane.specs.declared.normal.JoinDirection.{JoinDirection}
 use Rattle.plane.specs.declared.normal.JoinDirection.the-variants as normal
 use Rattle.plane.specs.declared.normal.NormalAnswer.{NormalAnswer}
-use Rattle.path.specs.Options.{strokeAnswerOf}
+use Rattle.options.specs.Options.{strokeAnswerOf}
 use Rattle.path.specs.Path.{checkAnswerOf}
-use Rattle.path.specs.declared.CheckAnswer.{CheckAnswer}
+use Rattle.refusals.specs.declared.Refusal.{Refusal}
+use Rattle.refusals.specs.declared.Refusal.the-variants as refusal
+use Rattle.refusals.specs.declared.Verdict.{Verdict}
 use Rattle.path.specs.declared.Checked.{Checked}
 use Rattle.path.specs.declared.Checked.the-variants as check
-use Rattle.path.specs.declared.options.StrokeAnswer.{StrokeAnswer}
-use Rattle.path.specs.declared.options.Stroked.{Stroked}
-use Rattle.path.specs.declared.options.Stroked.the-variants as stroke
+use Rattle.options.specs.declared.StrokeAnswer.{StrokeAnswer}
+use Rattle.options.specs.declared.Stroked.{Stroked}
+use Rattle.options.specs.declared.Stroked.the-variants as stroke
 use Rattle.mesh.specs.Answer.{meshAnswerOf}
 use Rattle.mesh.specs.declared.answer.MeshAnswer.{MeshAnswer}
 use Rattle.mesh.specs.declared.answer.Meshed.{Meshed}
@@ -40,31 +43,39 @@ direction-is normal.Refused = refl
 pub one-direction : (r s : JoinDirection) → normalAnswerOf r ≡ normalAnswerOf s → r ≡ s
 one-direction = same-case normalAnswerOf direction direction-is
 
+-- ---- refusals 1 to 4
+refusalOf : ℕ → ℕ → Refusal
+refusalOf number place =
+    cond (eqb number (numberOf outOfRange)) refusal.OutOfRange
+    (cond (eqb number (numberOf tooManyVerbs)) refusal.TooManyVerbs
+    (cond (eqb number (numberOf misplacedVerb)) (refusal.Verb place) (refusal.Coordinate place)))
+
 -- ---- stroke_of
 stroked : StrokeAnswer → Stroked
-stroked a = cond (eqb (a .number) (numberOf accepted)) (stroke.Stroke (a .stroke)) stroke.Refused
+stroked a = cond (eqb (a .number) (numberOf accepted)) (stroke.Stroke (a .stroke)) (stroke.Refused (refusalOf (a .number) (a .place)))
 
 stroked-is : (r : Stroked) → stroked (strokeAnswerOf r) ≡ r
-unfolding stroked
+unfolding stroked refusalOf
 stroked-is (stroke.Stroke s) = refl
-stroked-is stroke.Refused = refl
+stroked-is (stroke.Refused refusal.OutOfRange) = refl
+stroked-is (stroke.Refused refusal.TooManyVerbs) = refl
+stroked-is (stroke.Refused (refusal.Verb i)) = refl
+stroked-is (stroke.Refused (refusal.Coordinate i)) = refl
 
 pub one-stroked : (r s : Stroked) → strokeAnswerOf r ≡ strokeAnswerOf s → r ≡ s
 one-stroked = same-case strokeAnswerOf stroked stroked-is
 
 -- ---- check_path
-checked : CheckAnswer → Checked
-checked a =
-    cond (eqb (a .number) (numberOf accepted)) check.Accepted
-    (cond (eqb (a .number) (numberOf tooManyVerbs)) check.TooManyVerbs
-    (cond (eqb (a .number) (numberOf misplacedVerb)) (check.Verb (a .place)) (check.Coordinate (a .place))))
+checked : Verdict → Checked
+checked a = cond (eqb (a .number) (numberOf accepted)) check.Accepted (check.Refused (refusalOf (a .number) (a .place)))
 
 checked-is : (r : Checked) → checked (checkAnswerOf r) ≡ r
-unfolding checked
+unfolding checked refusalOf
 checked-is check.Accepted = refl
-checked-is check.TooManyVerbs = refl
-checked-is (check.Verb i) = refl
-checked-is (check.Coordinate i) = refl
+checked-is (check.Refused refusal.OutOfRange) = refl
+checked-is (check.Refused refusal.TooManyVerbs) = refl
+checked-is (check.Refused (refusal.Verb i)) = refl
+checked-is (check.Refused (refusal.Coordinate i)) = refl
 
 pub one-checked : (r s : Checked) → checkAnswerOf r ≡ checkAnswerOf s → r ≡ s
 one-checked = same-case checkAnswerOf checked checked-is
@@ -73,20 +84,17 @@ one-checked = same-case checkAnswerOf checked checked-is
 meshed : MeshAnswer → Meshed
 meshed a =
     cond (eqb (a .number) (numberOf accepted)) (mesh.Mesh (a .vertices) (a .triangles))
-    (cond (eqb (a .number) (numberOf outOfRange)) mesh.OutOfRange
-    (cond (eqb (a .number) (numberOf tooManyVerbs)) mesh.TooManyVerbs
-    (cond (eqb (a .number) (numberOf misplacedVerb)) (mesh.Verb (a .place))
-    (cond (eqb (a .number) (numberOf badCoordinate)) (mesh.Coordinate (a .place))
     (cond (eqb (a .number) (numberOf shortEdge)) (mesh.ShortEdge (a .place))
-    (cond (eqb (a .number) (numberOf vertexRoom)) (mesh.VertexRoom (a .vertices) (a .triangles)) (mesh.TriangleRoom (a .vertices) (a .triangles))))))))
+    (cond (eqb (a .number) (numberOf vertexRoom)) (mesh.VertexRoom (a .vertices) (a .triangles))
+    (cond (eqb (a .number) (numberOf triangleRoom)) (mesh.TriangleRoom (a .vertices) (a .triangles)) (mesh.Refused (refusalOf (a .number) (a .place))))))
 
 meshed-is : (r : Meshed) → meshed (meshAnswerOf r) ≡ r
-unfolding meshed
+unfolding meshed refusalOf
 meshed-is (mesh.Mesh n m) = refl
-meshed-is mesh.OutOfRange = refl
-meshed-is mesh.TooManyVerbs = refl
-meshed-is (mesh.Verb i) = refl
-meshed-is (mesh.Coordinate i) = refl
+meshed-is (mesh.Refused refusal.OutOfRange) = refl
+meshed-is (mesh.Refused refusal.TooManyVerbs) = refl
+meshed-is (mesh.Refused (refusal.Verb i)) = refl
+meshed-is (mesh.Refused (refusal.Coordinate i)) = refl
 meshed-is (mesh.ShortEdge i) = refl
 meshed-is (mesh.VertexRoom n m) = refl
 meshed-is (mesh.TriangleRoom n m) = refl

@@ -24,23 +24,24 @@ use Rattle.vertices.specs.Base.{baseVertexOf, sideVerticesOf}
 use Rattle.vertices.specs.Cap.{capVertexOf, capPairOf, capVerticesOf}
 use Rattle.vertices.specs.Vertex.{vertexOf, triangleOf}
 use Rattle.path.specs.Coordinates.{coordinateIn, firstOutside}
-use Rattle.path.specs.Options.{within, lineJoinOf, inRange, clipOf, preparedOf, strokeOf}
+use Rattle.options.specs.Options.{within, lineJoinOf, inRange, preparedOf, strokeOf, lineCapOf, nearSquare}
 use Rattle.path.specs.Path.{malformed, checkedOf}
 use Rattle.path.specs.Runs.{runsFrom}
 use Rattle.path.specs.Verbs.{begin, line, endOpen, endClosed, names, placed, firstMisplaced, endsInside, named, pointCount}
-use Rattle.points.specs.Points.{endpointsOf}
-use Rattle.course.specs.Joint.{dataOf, unworkedOf, jointOf, capOf, startCapOf, endCapOf, jointsFrom, jointsOf}
-use Rattle.course.specs.Kept.{nearOf, keptBehind, allNear, trimmed, keptPoints}
-use Rattle.course.specs.Leg.{legOf, nextLegOf, legsFrom, legsOf, shortOf, firstShort}
+use Rattle.kept.specs.Points.{endpointsOf}
+use Rattle.joints.specs.Joint.{dataOf, unworkedOf, jointOf, capOf, startCapOf, endCapOf, jointsFrom, jointsOf}
+use Rattle.kept.specs.Kept.{nearOf, keptBehind, allNear, trimmed, keptPoints}
+use Rattle.joints.specs.Leg.{legOf, nextLegOf, legsFrom, legsOf, shortOf, firstShort}
 use Rattle.strip.specs.Joint.{vertexCount, jointVerticesOf, verticesOf}
 use Rattle.strip.specs.Section.{sections}
 use Rattle.strip.specs.Triangle.{different, triOf, between, stripOf, through}
-use Rattle.run.specs.Run.{drawsCap, shapeOf, shapeCount, shapeVertices, shapeTriangles}
-use Rattle.drive.specs.Runs.{meshVertices, meshCount, meshTriangles, meshEdges}
+use Rattle.run.specs.Run.{shapeOf, shapeCount, shapeVertices, shapeTriangles}
+use Rattle.runs.specs.Runs.{meshVertices, meshCount, meshTriangles, meshEdges}
+use Rattle.pieces.specs.Piece.{lent}
 use Rattle.mesh.specs.Answer.{judgedOf}
 use Rattle.mesh.specs.Mesh.{Outcome, acceptedOf, strokedOf, outcomeOf}
 use Rattle.lists.specs.Over.{over, flat}
-use Rattle.path.specs.declared.options.Options.{Options}
+use Rattle.options.specs.declared.Options.{Options}
 
 -- the patterns of width and miter limit, join and cap
 pub record Pen : Type 0 where
@@ -98,9 +99,9 @@ reads xs i k = eqb (gotOf xs i .endpoint .id .0) k
 
 says : Case → Bool
 says (mesh p vs cs nv nt number place n m) =
-    let a = outcomeOf vs (map f32 cs) (optionsOf p) (replicate (5 * nv) (f32 0)) (replicate (3 * nt) 0) .answer in
+    let a = outcomeOf vs (map f32 cs) (optionsOf p) (lent (replicate (5 * nv) (f32 0)) (replicate (3 * nt) 0)) .answer in
     eqb (a .number) number && eqb (a .place) place && (eqb (a .vertices) n && eqb (a .triangles) m)
-says (keeps cs n) = eqb (length (keptPoints false (endpointsOf 0 (map f32 cs)))) n
+says (keeps cs n) = eqb (length (keptPoints nearSquare false (endpointsOf 0 (map f32 cs)))) n
 says (window cs a b c) = let xs = after [] cs in reads xs 0 a && (reads xs 1 b && reads xs 2 c)
 says (root x number r) = let a = rootAnswer (f32 x) in eqb (a .number) number && eqb (toBits binary32 (a .value)) r
 says (normal x1 y1 x2 y2 number x y) =
@@ -146,22 +147,51 @@ cases =
     ∷ mesh (pen 2 0) (begin ∷ line ∷ endClosed ∷ []) (0 ∷ 0 ∷ 0x42c80000 ∷ 0 ∷ []) 8 8 0 0 8 8
     ∷ mesh (pen 0 0) (begin ∷ line ∷ endClosed ∷ []) (0 ∷ 0 ∷ 0x42c80000 ∷ 0 ∷ []) 4 4 0 0 4 4 ∷ []
 
+-- what the checker opens to compute them
+arithmetic : Unit {0}
+unfolding leadingZeros add sub mul div neg lt eq ne le ofBits toBits floorRoot partsRoot bitsRoot rootOf
+arithmetic = tt
+
+vectors : Unit {0}
+unfolding plusOf minusOf timesOf overOf negatedOf turnedOf dotOf crossOf squareLengthOf lengthOf normalizeOf normalOf
+vectors = tt
+
+joins : Unit {0}
+unfolding singleOf pairOf sideLineOf unmovedOf movedOf clippedOf edgeSideOf edgeOf cornerOf inwardOf minOf pastOf overshootsOf foldedOf foldsOf exceededOf tipOf kindOf decidedOf tipPointOf clippedPairOf joinSideOf turnOf innerJoinOf sidePositionsOf
+joins = tt
+
+vertices : Unit {0}
+unfolding baseVertexOf sideVerticesOf capVertexOf capPairOf capVerticesOf vertexOf triangleOf
+vertices = tt
+
+paths : Unit {0}
+unfolding coordinateIn firstOutside within lineJoinOf lineCapOf inRange preparedOf strokeOf malformed checkedOf runsFrom names placed firstMisplaced endsInside named pointCount endpointsOf
+paths = tt
+
+runs : Unit {0}
+unfolding dataOf unworkedOf jointOf capOf startCapOf endCapOf jointsFrom jointsOf nearOf keptBehind allNear trimmed keptPoints legOf nextLegOf legsFrom legsOf shortOf firstShort
+runs = tt
+
+meshes : Unit {0}
+unfolding vertexCount jointVerticesOf verticesOf sections flat different triOf between stripOf through shapeOf shapeCount shapeVertices shapeTriangles meshVertices meshCount meshTriangles meshEdges judgedOf acceptedOf strokedOf outcomeOf over
+meshes = tt
+
 pub worked : every cases ≡ true
-unfolding every says cases reads after gotOf lastThree lastReplaced computeNormalOf inDomain normalOf floorRoot partsRoot bitsRoot rootOf plusOf minusOf timesOf overOf negatedOf turnedOf dotOf crossOf squareLengthOf lengthOf normalizeOf singleOf pairOf sideLineOf unmovedOf movedOf clippedOf edgeSideOf edgeOf cornerOf inwardOf minOf pastOf overshootsOf foldedOf foldsOf exceededOf tipOf kindOf decidedOf tipPointOf clippedPairOf joinSideOf turnOf innerJoinOf sidePositionsOf baseVertexOf sideVerticesOf capVertexOf capPairOf capVerticesOf vertexOf triangleOf coordinateIn firstOutside within lineJoinOf inRange clipOf preparedOf strokeOf malformed checkedOf runsFrom names placed firstMisplaced endsInside named pointCount endpointsOf dataOf unworkedOf jointOf capOf startCapOf endCapOf jointsFrom jointsOf nearOf keptBehind allNear trimmed keptPoints legOf nextLegOf legsFrom legsOf shortOf firstShort vertexCount jointVerticesOf verticesOf sections flat different triOf between stripOf through drawsCap shapeOf shapeCount shapeVertices shapeTriangles meshVertices meshCount meshTriangles meshEdges judgedOf acceptedOf strokedOf outcomeOf leadingZeros add sub mul div neg lt eq ne le ofBits toBits over
+unfolding every says cases reads after gotOf lastThree lastReplaced computeNormalOf inDomain arithmetic vectors joins vertices paths runs meshes
 worked = refl
 
 -- the program's example, `M0 1L2 1`: its four vertices, with their normals and advancements, and its triangles
 pub line-example : Outcome
-line-example = outcomeOf (begin ∷ line ∷ endOpen ∷ []) (map f32 (0 ∷ 0x3f800000 ∷ 0x40000000 ∷ 0x3f800000 ∷ [])) (optionsOf (pen 0 0)) (replicate 20 (f32 0)) (replicate 7 9)
+line-example = outcomeOf (begin ∷ line ∷ endOpen ∷ []) (map f32 (0 ∷ 0x3f800000 ∷ 0x40000000 ∷ 0x3f800000 ∷ [])) (optionsOf (pen 0 0)) (lent (replicate 20 (f32 0)) (replicate 7 9))
 
-pub written : map (toBits binary32) (line-example .vertices) ≡ 0 ∷ 0x40000000 ∷ 0 ∷ 0x3f800000 ∷ 0
+pub written : map (toBits binary32) (line-example .lists .vertices) ≡ 0 ∷ 0x40000000 ∷ 0 ∷ 0x3f800000 ∷ 0
     ∷ 0 ∷ 0 ∷ 0 ∷ 0xbf800000 ∷ 0
     ∷ 0x40000000 ∷ 0x40000000 ∷ 0 ∷ 0x3f800000 ∷ 0x40000000
     ∷ 0x40000000 ∷ 0 ∷ 0 ∷ 0xbf800000 ∷ 0x40000000 ∷ []
-unfolding line-example normalOf floorRoot partsRoot bitsRoot rootOf plusOf minusOf timesOf overOf negatedOf turnedOf dotOf crossOf squareLengthOf lengthOf normalizeOf singleOf pairOf sideLineOf unmovedOf movedOf clippedOf edgeSideOf edgeOf cornerOf inwardOf minOf pastOf overshootsOf foldedOf foldsOf exceededOf tipOf kindOf decidedOf tipPointOf clippedPairOf joinSideOf turnOf innerJoinOf sidePositionsOf baseVertexOf sideVerticesOf capVertexOf capPairOf capVerticesOf vertexOf triangleOf coordinateIn firstOutside within lineJoinOf inRange clipOf preparedOf strokeOf malformed checkedOf runsFrom names placed firstMisplaced endsInside named pointCount endpointsOf dataOf unworkedOf jointOf capOf startCapOf endCapOf jointsFrom jointsOf nearOf keptBehind allNear trimmed keptPoints legOf nextLegOf legsFrom legsOf shortOf firstShort vertexCount jointVerticesOf verticesOf sections flat different triOf between stripOf through drawsCap shapeOf shapeCount shapeVertices shapeTriangles meshVertices meshCount meshTriangles meshEdges judgedOf acceptedOf strokedOf outcomeOf leadingZeros add sub mul div neg lt eq ne le ofBits toBits over
+unfolding line-example arithmetic vectors joins vertices paths runs meshes
 written = refl
 
 -- the seventh number was not asked for, and is left as it was
-pub faced : line-example .triangles ≡ 1 ∷ 0 ∷ 2 ∷ 1 ∷ 2 ∷ 3 ∷ 9 ∷ []
-unfolding line-example normalOf floorRoot partsRoot bitsRoot rootOf plusOf minusOf timesOf overOf negatedOf turnedOf dotOf crossOf squareLengthOf lengthOf normalizeOf singleOf pairOf sideLineOf unmovedOf movedOf clippedOf edgeSideOf edgeOf cornerOf inwardOf minOf pastOf overshootsOf foldedOf foldsOf exceededOf tipOf kindOf decidedOf tipPointOf clippedPairOf joinSideOf turnOf innerJoinOf sidePositionsOf baseVertexOf sideVerticesOf capVertexOf capPairOf capVerticesOf vertexOf triangleOf coordinateIn firstOutside within lineJoinOf inRange clipOf preparedOf strokeOf malformed checkedOf runsFrom names placed firstMisplaced endsInside named pointCount endpointsOf dataOf unworkedOf jointOf capOf startCapOf endCapOf jointsFrom jointsOf nearOf keptBehind allNear trimmed keptPoints legOf nextLegOf legsFrom legsOf shortOf firstShort vertexCount jointVerticesOf verticesOf sections flat different triOf between stripOf through drawsCap shapeOf shapeCount shapeVertices shapeTriangles meshVertices meshCount meshTriangles meshEdges judgedOf acceptedOf strokedOf outcomeOf leadingZeros add sub mul div neg lt eq ne le ofBits toBits over
+pub faced : line-example .lists .triangles ≡ 1 ∷ 0 ∷ 2 ∷ 1 ∷ 2 ∷ 3 ∷ 9 ∷ []
+unfolding line-example arithmetic vectors joins vertices paths runs meshes
 faced = refl

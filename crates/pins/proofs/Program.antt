@@ -10,19 +10,19 @@ use Rattle.join.specs.Edge.{edgeSideOf, edgeOf}
 use Rattle.vertices.specs.Base.{baseVertexOf, sideVerticesOf}
 use Rattle.vertices.specs.Vertex.{vertexOf}
 use Rattle.path.specs.Coordinates.{coordinateIn, firstOutside}
-use Rattle.path.specs.Options.{within, inRange, clipOf, preparedOf, strokeOf}
+use Rattle.options.specs.Options.{within, inRange, lineCapOf, preparedOf, strokeOf}
 use Rattle.path.specs.Path.{malformed, checkedOf}
 use Rattle.path.specs.Runs.{runsFrom}
 use Rattle.path.specs.Verbs.{names, placed, firstMisplaced, endsInside, named, pointCount}
-use Rattle.points.specs.Points.{endpointsOf}
-use Rattle.course.specs.Joint.{dataOf, capOf, startCapOf, endCapOf, jointsFrom, jointsOf}
-use Rattle.course.specs.Kept.{nearOf, keptBehind, keptPoints}
-use Rattle.course.specs.Leg.{legOf, legsFrom, legsOf, shortOf, firstShort}
+use Rattle.kept.specs.Points.{endpointsOf}
+use Rattle.joints.specs.Joint.{dataOf, capOf, startCapOf, endCapOf, jointsFrom, jointsOf}
+use Rattle.kept.specs.Kept.{nearOf, keptBehind, keptPoints}
+use Rattle.joints.specs.Leg.{legOf, legsFrom, legsOf, shortOf, firstShort}
 use Rattle.strip.specs.Joint.{vertexCount, jointVerticesOf, verticesOf}
 use Rattle.strip.specs.Section.{sections}
 use Rattle.strip.specs.Triangle.{different, triOf, between, stripOf, through}
 use Rattle.run.specs.Run.{shapeOf, shapeCount, shapeVertices, shapeTriangles}
-use Rattle.drive.specs.Runs.{meshVertices, meshCount, meshTriangles, meshEdges}
+use Rattle.runs.specs.Runs.{meshVertices, meshCount, meshTriangles, meshEdges}
 use Rattle.mesh.specs.Answer.{judgedOf}
 use Rattle.mesh.specs.Mesh.{acceptedOf, strokedOf, outcomeOf}
 use Rattle.form.specs.Bytes.{classOf}
@@ -46,7 +46,7 @@ unfolding singleOf edgeSideOf edgeOf baseVertexOf sideVerticesOf vertexOf
 joins = tt
 
 paths : Unit {0}
-unfolding coordinateIn firstOutside within inRange clipOf preparedOf strokeOf malformed checkedOf runsFrom names placed firstMisplaced endsInside named pointCount endpointsOf
+unfolding coordinateIn firstOutside within inRange lineCapOf preparedOf strokeOf malformed checkedOf runsFrom names placed firstMisplaced endsInside named pointCount endpointsOf
 paths = tt
 
 runs : Unit {0}

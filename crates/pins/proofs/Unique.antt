@@ -18,13 +18,14 @@ use Rattle.window.specs.declared.answer.Got.{Got}
 use Rattle.window.specs.declared.buffer.PointBuffer.{PointBuffer}
 use Rattle.window.specs.declared.buffer.Replaced.{Replaced}
 use Rattle.window.proofs.Laws.{one-got, one-replaced}
-use Rattle.path.specs.Options.{strokeOf, strokeAnswerOf}
+use Rattle.options.specs.Options.{strokeOf, strokeAnswerOf}
 use Rattle.path.specs.Path.{checkedOf, checkAnswerOf}
 use Rattle.path.specs.declared.Checked.{Checked}
-use Rattle.path.specs.declared.options.Options.{Options}
-use Rattle.path.specs.declared.options.Stroked.{Stroked}
+use Rattle.options.specs.declared.Options.{Options}
+use Rattle.options.specs.declared.Stroked.{Stroked}
+use Rattle.pieces.specs.Piece.{Lists}
 use Rattle.mesh.specs.Answer.{meshAnswerOf}
-use Rattle.mesh.specs.Mesh.{Outcome, outcomeOf}
+use Rattle.mesh.specs.Mesh.{Outcome, answered, outcomeOf}
 use Rattle.mesh.specs.declared.answer.Meshed.{Meshed}
 use Rattle.reader.specs.Answer.{readAnswerOf}
 use Rattle.reader.specs.Outcome as reader
@@ -38,14 +39,13 @@ abbrev pub Same : {A B : Type 0} → (A → B) → A → A → Type 0
 Same numbers r s = (numbers r ≡ numbers s) × (r ≡ s)
 
 -- ---- mesh::tessellate: the answer and both lists
-pub mesh-one : (verbs : List ℕ) (coords : List Float) (options : Options) (v : List Float) (t : List ℕ) (r s : Meshed) (v1 v2 : List Float) (t1 t2 : List ℕ)
-    → record { answer = meshAnswerOf r; vertices = v1; triangles = t1 } ≡ outcomeOf verbs coords options v t
-    → record { answer = meshAnswerOf s; vertices = v2; triangles = t2 } ≡ outcomeOf verbs coords options v t
+pub mesh-one : (verbs : List ℕ) (coords : List Float) (options : Options) (l : Lists) (r s : Meshed) (v1 v2 : List Float) (t1 t2 : List ℕ) → answered r v1 t1 ≡ outcomeOf verbs coords options l
+    → answered s v2 t2 ≡ outcomeOf verbs coords options l
     → Same meshAnswerOf r s × (v1 ≡ v2) × (t1 ≡ t2)
-mesh-one verbs coords options v t r s v1 v2 t1 t2 h k =
+mesh-one verbs coords options l r s v1 v2 t1 t2 h k =
     let e = h ∙ sym k in
     let n = ap (λ (o : Outcome). o .answer) e in
-    ((n, one-meshed r s n), ap (λ (o : Outcome). o .vertices) e, ap (λ (o : Outcome). o .triangles) e)
+    ((n, one-meshed r s n), ap (λ (o : Outcome). o .lists .vertices) e, ap (λ (o : Outcome). o .lists .triangles) e)
 
 -- ---- reader::read: the answer and both lists
 pub read-one : (text verbs : List ℕ) (coords : List Float) (r s : Reading) (v1 v2 : List ℕ) (c1 c2 : List Float)

@@ -11,7 +11,8 @@ use Rattle.plane.specs.Normal.{normalAnswerOf, computeNormalOf}
 use Rattle.plane.specs.Vector.{point}
 use Rattle.plane.specs.declared.normal.JoinDirection.{JoinDirection}
 use Rattle.plane.specs.declared.normal.NormalAnswer.{NormalAnswer}
-use Rattle.path.specs.declared.options.Options.{Options}
+use Rattle.options.specs.declared.Options.{Options}
+use Rattle.pieces.specs.Piece.{Lists}
 use Rattle.mesh.specs.Mesh.{outcomeOf}
 use Rattle.mesh.specs.declared.answer.MeshAnswer.{MeshAnswer}
 use Rattle.reader.specs.Outcome as reader
@@ -19,13 +20,11 @@ use Rattle.reader.specs.Reads.{Reads}
 use Rattle.reader.specs.declared.answer.ReadAnswer.{ReadAnswer}
 use Rattle.stipeharbor.specs.Calls.{tessellateOutOf, readOutOf, ReadsOut, rootOutOf, RootsOut, normalOutOf}
 
-pub tessellated : (verbs : List ℕ) (coords : List Float) (options : Options) (v v' : List Float) (t t' answer : List ℕ) (r : MeshAnswer)
-    → record { answer = r; vertices = v'; triangles = t' } ≡ outcomeOf verbs coords options v t
-    → (a : MeshAnswer) → a ≡ r
-    → (answer' : List ℕ) → answer' ≡ over (a .place ∷ a .vertices ∷ a .triangles ∷ []) answer
-    → record { number = a .number; answer = answer'; vertices = v'; triangles = t' } ≡ tessellateOutOf verbs coords options v t answer
+pub is-tessellated : (verbs : List ℕ) (coords : List Float) (options : Options) (l : Lists) (answer : List ℕ) {l' : Lists} {r : MeshAnswer} → record { answer = r; lists = l' } ≡ outcomeOf verbs coords options l
+    → {a : MeshAnswer} → a ≡ r → {answer' : List ℕ} → answer' ≡ over (a .place ∷ a .vertices ∷ a .triangles ∷ []) answer
+    → record { number = a .number; answer = answer'; lists = l' } ≡ tessellateOutOf verbs coords options l answer
 unfolding tessellateOutOf
-tessellated verbs coords options v v' t t' answer r h a e answer' w = rw (← h, ← e, w)
+is-tessellated verbs coords options l answer h e w = rw (← h, ← e, w)
 
 pub reads-out : (text verbs : List ℕ) (coords : List Float) (answer : List ℕ) (o : reader.Outcome) → Reads text verbs coords o
     → (a : ReadAnswer) → a ≡ o .answer

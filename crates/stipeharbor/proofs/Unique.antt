@@ -5,14 +5,15 @@ use mathlib.Core.List.{List}
 use lib.Ieee.{Float}
 use Rattle.root.specs.declared.Answer.{Answer}
 use Rattle.root.proofs.Laws.{one-answer}
-use Rattle.path.specs.declared.options.Options.{Options}
+use Rattle.options.specs.declared.Options.{Options}
+use Rattle.pieces.specs.Piece.{Lists}
 use Rattle.reader.specs.Outcome as reader
 use Rattle.reader.proofs.Meets.{same-outcome}
 use Rattle.stipeharbor.specs.Calls.{Tessellated, tessellateOutOf, ReadOut, readOutOf, ReadsOut, FloatsOut, rootOutOf, RootsOut, normalOutOf}
 
-pub tessellate-out-one : (verbs : List ℕ) (coords : List Float) (options : Options) (v : List Float) (t answer : List ℕ) (a b : Tessellated)
-    → a ≡ tessellateOutOf verbs coords options v t answer → b ≡ tessellateOutOf verbs coords options v t answer → a ≡ b
-tessellate-out-one verbs coords options v t answer a b h k = h ∙ sym k
+pub tessellate-out-one : (verbs : List ℕ) (coords : List Float) (options : Options) (l : Lists) (answer : List ℕ) (a b : Tessellated)
+    → a ≡ tessellateOutOf verbs coords options l answer → b ≡ tessellateOutOf verbs coords options l answer → a ≡ b
+tessellate-out-one verbs coords options l answer a b h k = h ∙ sym k
 
 pub read-out-one : (text verbs : List ℕ) (coords : List Float) (answer : List ℕ) (a b : ReadOut) → ReadsOut text verbs coords answer a → ReadsOut text verbs coords answer b → a ≡ b
 read-out-one text verbs coords answer a b h k =

@@ -9,24 +9,30 @@ use Rattle.root.specs.Answer.{Answers}
 use Rattle.root.specs.declared.Answer.{Answer}
 use Rattle.plane.specs.Normal.{computeNormalOf}
 use Rattle.plane.specs.Vector.{point}
-use Rattle.path.specs.declared.options.Options.{Options}
+use Rattle.options.specs.declared.Options.{Options}
+use Rattle.pieces.specs.Piece.{Lists, lent}
 use Rattle.mesh.specs.Mesh.{outcomeOf}
 use Rattle.reader.specs.Outcome as reader
 use Rattle.reader.specs.Reads.{Reads}
 
 -- ---- stipeharbor_tessellate
+abbrev pub optionsOf : Float → Float → ℕ → ℕ → Options
+optionsOf width limit join cap = record { width = width; «miter_limit» = limit; «line_join» = join; cap = cap }
+
 pub record Tessellated : Type 0 where
   pub number : ℕ
   pub answer : List ℕ
-  pub vertices : List Float
-  pub triangles : List ℕ
+  pub lists : Lists
+
+abbrev pub tessellated : ℕ → List ℕ → List Float → List ℕ → Tessellated
+tessellated number answer v t = record { number = number; answer = answer; lists = lent v t }
 
 -- the mesh call's outcome: "place", then "both counts"
-unfoldable pub tessellateOutOf : List ℕ → List Float → Options → List Float → List ℕ → List ℕ → Tessellated
-tessellateOutOf verbs coords options v t answer =
-    let o = outcomeOf verbs coords options v t in
+unfoldable pub tessellateOutOf : List ℕ → List Float → Options → Lists → List ℕ → Tessellated
+tessellateOutOf verbs coords options l answer =
+    let o = outcomeOf verbs coords options l in
     let a = o .answer in
-    record { number = a .number; answer = over (a .place ∷ a .vertices ∷ a .triangles ∷ []) answer; vertices = o .vertices; triangles = o .triangles }
+    record { number = a .number; answer = over (a .place ∷ a .vertices ∷ a .triangles ∷ []) answer; lists = o .lists }
 
 -- ---- stipeharbor_read
 pub record ReadOut : Type 0 where

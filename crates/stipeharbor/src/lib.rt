@@ -7,7 +7,8 @@ use crate::put::put_numbers;
 use crate::put::put_vector;
 use mesh::answer::mesh_answer_of;
 use mesh::tessellate;
-use path::options::Options;
+use options::Options;
+use pieces::Index;
 use plane::normal::compute_normal;
 use plane::normal::normal_answer_of;
 use plane::vector::Point;
@@ -16,7 +17,8 @@ use reader::read;
 use root::answer_of;
 use root::root;
 ghost use mathlib.Core.Path.{_≡_};
-ghost use Rattle.stipeharbor.specs.Calls.{tessellateOutOf, normalOutOf, ReadsOut, RootsOut};
+ghost use Rattle.pieces.specs.Piece.{lent};
+ghost use Rattle.stipeharbor.specs.Calls.{optionsOf, tessellated, tessellateOutOf, normalOutOf, ReadsOut, RootsOut};
 
 // The mesh call. `answer` gets the place, the number of vertices and the number of triangles.
 #[no_mangle]
@@ -28,10 +30,10 @@ pub extern "C" fn stipeharbor_tessellate(
     line_join: u32,
     line_cap: u32,
     vertices: &mut [f32],
-    triangles: &mut [u16],
+    triangles: &mut [Index],
     answer: &mut [usize],
 ) -> u32
-    ensures { λ r. ⌜ record { number = r; answer = now (answer .exit); vertices = now (vertices .exit); triangles = now (triangles .exit) } ≡ tessellateOutOf (now (verbs .entry)) (now (coords .entry)) (record { width = width; «miter_limit» = «miter_limit»; «line_join» = «line_join»; cap = «line_cap» }) (now (vertices .entry)) (now (triangles .entry)) (now (answer .entry)) ⌝ }
+    ensures { λ r. ⌜ tessellated r (now (answer .exit)) (now (vertices .exit)) (now (triangles .exit)) ≡ tessellateOutOf (now (verbs .entry)) (now (coords .entry)) (optionsOf width «miter_limit» «line_join» «line_cap») (lent (now (vertices .entry)) (now (triangles .entry))) (now (answer .entry)) ⌝ }
 {
     let options = Options {
         width: width,

@@ -17,9 +17,7 @@ slice-aggregate-draw-runs-2 : tie.Need-slice-aggregate-draw-runs-2
 slice-aggregate-draw-runs-2 c = search needs
 
 draw-runs-requires : tie.Need-draw-runs-requires
-draw-runs-requires c κs =
-    let entry = c .before .before .before .before .before .before in
-    (sound-paired _ _ (entry .pre), counts-fit _ _ _ (entry .pre) _)
+draw-runs-requires c κs = (sound-paired _ _ (c .before .before .before .before .before .before .pre), counts-fit _ _ _ (c .before .before .before .before .before .before .pre) _)
 
 same-length : tie.Need-same-length
 same-length c = search needs

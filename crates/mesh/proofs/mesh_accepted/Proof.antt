@@ -5,15 +5,26 @@ use Rattle.mesh.proofs.Rooms.{sound-paired, plenty-fits, plenty-drawn, 
 use Rattle.mesh.proofs.mesh_accepted.Statement.{statement}
 use Rattle.mesh.proofs.mesh_accepted.Tie as tie
 
+-- from a call back to the one before it
+abbrev to-is-plenty : tie.After-draw-runs → tie.After-is-plenty
+to-is-plenty c = c .before .before .before .before
+
+abbrev to-count-accepted : tie.After-judged → tie.After-count-accepted
+to-count-accepted c = c .before .before .before .before .before
+
+abbrev to-is-plenty-from-count-accepted : tie.After-count-accepted → tie.After-is-plenty
+to-is-plenty-from-count-accepted c = c .before .before .before .before
+
+abbrev to-judged : tie.After-draw-runs2 → tie.After-judged
+to-judged c = c .before .before .before .before .before
+
 is-plenty-requires : tie.Need-is-plenty-requires
 is-plenty-requires c κs = search needs
 
 draw-runs-requires : tie.Need-draw-runs-requires
 draw-runs-requires c κs =
-    let at-if1 = c .before .before in
-    let at-is-plenty = at-if1 .before in
-    let entry = at-is-plenty .before .before .before .before .before in
-    (sound-paired _ _ (entry .pre .1), plenty-fits _ _ _ (entry .pre .1) (entry .pre .0) _ (at-is-plenty .is-plenty .ensures (at-if1 .if1 .taken)))
+    let pre = c .before .before .before .before .before .before .before .before .pre in
+    (sound-paired _ _ (pre .1), plenty-fits _ _ _ (pre .1) (pre .0) _ (c .before .before .before .is-plenty .ensures (c .before .before .if1 .taken)))
 
 same-length : tie.Need-same-length
 same-length c = search needs
@@ -23,11 +34,8 @@ same-length-2 c = search needs
 
 returns : tie.Need-returns
 returns c =
-    let at-draw-runs = c .before .before .before .before in
-    let at-if1 = at-draw-runs .before .before .before in
-    let at-is-plenty = at-if1 .before in
-    let entry = at-is-plenty .before .before .before .before .before in
-    plenty-drawn _ _ _ (entry .pre .1) (entry .pre .0) _ (at-is-plenty .is-plenty .ensures (at-if1 .if1 .taken)) (at-draw-runs .draw-runs .ensures)
+    let pre = (to-is-plenty (c .before .before .before .before)) .before .before .before .before .before .pre in
+    plenty-drawn _ _ _ (pre .1) (pre .0) _ (to-is-plenty (c .before .before .before .before) .is-plenty .ensures (c .before .before .before .before .before .before .before .if1 .taken)) (c .before .before .before .before .draw-runs .ensures)
 
 count-accepted-requires : tie.Need-count-accepted-requires
 count-accepted-requires c κs = c .before .before .before .before .before .before .before .before .pre .1
@@ -40,12 +48,8 @@ fits-requires c κs = search needs
 
 draw-runs-requires-2 : tie.Need-draw-runs-requires-2
 draw-runs-requires-2 c κs =
-    let at-if2 = c .before .before in
-    let at-fits2 = at-if2 .before in
-    let at-judged = at-fits2 .before in
-    let at-count-accepted = at-judged .before .before .before .before .before in
-    let entry = at-count-accepted .before .before .before .before .before .before .before .before .before in
-    (sound-paired _ _ (entry .pre .1), mesh-fits _ _ _ (entry .pre .1) (entry .pre .0) _ (at-count-accepted .count-accepted .ensures) _ (at-judged .judged .ensures) (sym (at-fits2 .fits2 .ensures) ∙ at-if2 .if2 .taken))
+    let pre = (to-is-plenty-from-count-accepted (to-count-accepted (c .before .before .before .before))) .before .before .before .before .before .pre in
+    (sound-paired _ _ (pre .1), mesh-fits _ _ _ (pre .1) (pre .0) _ (to-count-accepted (c .before .before .before .before) .count-accepted .ensures) _ (c .before .before .before .before .judged .ensures) (sym (c .before .before .before .fits2 .ensures) ∙ c .before .before .if2 .taken))
 
 same-length-3 : tie.Need-same-length-3
 same-length-3 c = search needs
@@ -55,13 +59,8 @@ same-length-4 c = search needs
 
 returns-2 : tie.Need-returns-2
 returns-2 c =
-    let at-draw-runs2 = c .before .before .before .before in
-    let at-if2 = at-draw-runs2 .before .before .before in
-    let at-fits2 = at-if2 .before in
-    let at-judged = at-fits2 .before in
-    let at-count-accepted = at-judged .before .before .before .before .before in
-    let entry = at-count-accepted .before .before .before .before .before .before .before .before .before in
-    is-drawn _ _ _ (entry .pre .1) (entry .pre .0) _ (at-count-accepted .count-accepted .ensures) _ (at-judged .judged .ensures) (sym (at-fits2 .fits2 .ensures) ∙ at-if2 .if2 .taken) (at-draw-runs2 .draw-runs2 .ensures)
+    let pre = (to-is-plenty-from-count-accepted (to-count-accepted (to-judged (c .before .before .before .before)))) .before .before .before .before .before .pre in
+    is-drawn _ _ _ (pre .1) (pre .0) _ (to-count-accepted (to-judged (c .before .before .before .before)) .count-accepted .ensures) _ (to-judged (c .before .before .before .before) .judged .ensures) (sym (c .before .before .before .before .before .before .before .before .fits2 .ensures) ∙ c .before .before .before .before .before .before .before .if2 .taken) (c .before .before .before .before .draw-runs2 .ensures)
 
 same-length-5 : tie.Need-same-length-5
 same-length-5 c = search needs
@@ -71,11 +70,8 @@ same-length-6 c = search needs
 
 returns-3 : tie.Need-returns-3
 returns-3 c =
-    let at-fits2 = c .before in
-    let at-judged = at-fits2 .before in
-    let at-count-accepted = at-judged .before .before .before .before .before in
-    let entry = at-count-accepted .before .before .before .before .before .before .before .before .before in
-    is-refused _ _ _ (entry .pre .1) (entry .pre .0) _ (at-count-accepted .count-accepted .ensures) _ (at-judged .judged .ensures) (sym (at-fits2 .fits2 .ensures) ∙ c .if2 .left)
+    let pre = (to-is-plenty-from-count-accepted (to-count-accepted (c .before .before))) .before .before .before .before .before .pre in
+    is-refused _ _ _ (pre .1) (pre .0) _ (to-count-accepted (c .before .before) .count-accepted .ensures) _ (c .before .before .judged .ensures) (sym (c .before .fits2 .ensures) ∙ c .if2 .left)
 
 pub mesh-accepted-spec : {M : Type 1} → statement M
 mesh-accepted-spec =

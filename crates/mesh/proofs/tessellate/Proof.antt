@@ -1,7 +1,8 @@
 -- `mesh::tessellate` meets its contract. Assumes nothing.
 use borrow.Author.Needs.{needs}
 use mathlib.Core.Path.{sym, ap, _∙_}
-use Rattle.path.specs.Options.{strokeAnswerOf}
+use Rattle.options.specs.Options.{strokeAnswerOf}
+use Rattle.mesh.proofs.Rooms.{refused-first}
 use Rattle.mesh.specs.Mesh.{outcomeOf}
 use Rattle.mesh.proofs.tessellate.Statement.{statement}
 use Rattle.mesh.proofs.tessellate.Tie as tie
@@ -9,14 +10,14 @@ use Rattle.mesh.proofs.tessellate.Tie as tie
 stroke-of-requires : tie.Need-stroke-of-requires
 stroke-of-requires c κs = search needs
 
-enum-known-o : tie.Need-enum-known-o
-enum-known-o c = search needs
+enum-known-stroke : tie.Need-enum-known-stroke
+enum-known-stroke c = search needs
 
 mesh-stroked-requires : tie.Need-mesh-stroked-requires
-mesh-stroked-requires c κs = record { options = c .before .before .before .before .before .before .before .before .before .before .args .options; is = sym (c .before .before .before .before .before .stroke-of .ensures) ∙ ap strokeAnswerOf (c .before .before .before .o .given .1) }
+mesh-stroked-requires c κs = record { options = c .before .before .before .before .before .before .before .before .before .before .args .options; is = sym (c .before .before .before .before .before .stroke-of .ensures) ∙ ap strokeAnswerOf (c .before .before .before .stroke .given .1) }
 
-enum-told : tie.Need-enum-told
-enum-told c = search needs
+enum-known-r : tie.Need-enum-known-r
+enum-known-r c = search needs
 
 same-length : tie.Need-same-length
 same-length c = search needs
@@ -26,20 +27,20 @@ same-length-2 c = search needs
 
 returns : tie.Need-returns
 unfolding outcomeOf
-returns c = rw (← c .before .before .before .before .before .before .before .before .before .before .stroke-of .ensures, c .before .before .before .before .before .before .before .before .o .given .1) (c .before .before .before .before .mesh-stroked .ensures)
+returns c = rw (← c .before .before .before .before .before .before .before .before .before .before .stroke-of .ensures, c .before .before .before .before .before .before .before .before .stroke .given .1) (c .before .before .before .before .mesh-stroked .ensures)
 
 returns-2 : tie.Need-returns-2
 unfolding outcomeOf
-returns-2 c = rw (← c .before .before .stroke-of .ensures, c .enum-told .given .1)
+returns-2 c = rw (← c .before .before .before .stroke-of .ensures, c .before .r .given .1) (refused-first _ (c .before .r .given .0 .0) _)
 
 pub tessellate-spec : {M : Type 1} → statement M
 tessellate-spec =
     tie.close
     (tie.spec
     stroke-of-requires
-    enum-known-o
+    enum-known-stroke
     mesh-stroked-requires
-    enum-told
+    enum-known-r
     same-length
     same-length-2
     returns

@@ -9,44 +9,29 @@ enum-known-answer c = search needs
 with-counts-requires : tie.Need-with-counts-requires
 with-counts-requires c κs = search needs
 
-enum-told : tie.Need-enum-told
-enum-told c = search needs
+enum-known-answer-2 : tie.Need-enum-known-answer-2
+enum-known-answer-2 c = search needs
+
+verdict-of-requires : tie.Need-verdict-of-requires
+verdict-of-requires c κs = search needs
 
 with-place-requires : tie.Need-with-place-requires
 with-place-requires c κs = search needs
 
-enum-told-2 : tie.Need-enum-told-2
-enum-told-2 c = search needs
+enum-known-answer-3 : tie.Need-enum-known-answer-3
+enum-known-answer-3 c = search needs
 
 with-place-requires-2 : tie.Need-with-place-requires-2
 with-place-requires-2 c κs = search needs
 
-enum-known-answer-2 : tie.Need-enum-known-answer-2
-enum-known-answer-2 c = search needs
-
-with-place-requires-3 : tie.Need-with-place-requires-3
-with-place-requires-3 c κs = search needs
-
-enum-known-answer-3 : tie.Need-enum-known-answer-3
-enum-known-answer-3 c = search needs
-
-with-place-requires-4 : tie.Need-with-place-requires-4
-with-place-requires-4 c κs = search needs
-
 enum-known-answer-4 : tie.Need-enum-known-answer-4
 enum-known-answer-4 c = search needs
-
-with-place-requires-5 : tie.Need-with-place-requires-5
-with-place-requires-5 c κs = search needs
-
-enum-known-answer-5 : tie.Need-enum-known-answer-5
-enum-known-answer-5 c = search needs
 
 with-counts-requires-2 : tie.Need-with-counts-requires-2
 with-counts-requires-2 c κs = search needs
 
-enum-known-answer-6 : tie.Need-enum-known-answer-6
-enum-known-answer-6 c = search needs
+enum-known-answer-5 : tie.Need-enum-known-answer-5
+enum-known-answer-5 c = search needs
 
 with-counts-requires-3 : tie.Need-with-counts-requires-3
 with-counts-requires-3 c κs = search needs
@@ -55,25 +40,16 @@ returns : tie.Need-returns
 returns c = rw (c .with-counts .ensures, c .before .before .answer .given .1)
 
 returns-2 : tie.Need-returns-2
-returns-2 c = rw (c .with-place .ensures, c .before .enum-told .given .1)
+returns-2 c = rw (c .with-place .ensures, c .before .verdict-of .ensures, c .before .before .before .answer2 .given .1)
 
 returns-3 : tie.Need-returns-3
-returns-3 c = rw (c .with-place2 .ensures, c .before .enum-told2 .given .1)
+returns-3 c = rw (c .with-place2 .ensures, c .before .before .answer3 .given .1)
 
 returns-4 : tie.Need-returns-4
-returns-4 c = rw (c .with-place3 .ensures, c .before .before .answer2 .given .1)
+returns-4 c = rw (c .with-counts2 .ensures, c .before .before .answer4 .given .1)
 
 returns-5 : tie.Need-returns-5
-returns-5 c = rw (c .with-place4 .ensures, c .before .before .answer3 .given .1)
-
-returns-6 : tie.Need-returns-6
-returns-6 c = rw (c .with-place5 .ensures, c .before .before .answer4 .given .1)
-
-returns-7 : tie.Need-returns-7
-returns-7 c = rw (c .with-counts2 .ensures, c .before .before .answer5 .given .1)
-
-returns-8 : tie.Need-returns-8
-returns-8 c = rw (c .with-counts3 .ensures, c .before .before .answer6 .given .1)
+returns-5 c = rw (c .with-counts3 .ensures, c .before .before .answer5 .given .1)
 
 pub mesh-answer-of-spec : {M : Type 1} → statement M
 mesh-answer-of-spec =
@@ -81,25 +57,17 @@ mesh-answer-of-spec =
     (tie.spec
     enum-known-answer
     with-counts-requires
-    enum-told
-    with-place-requires
-    enum-told-2
-    with-place-requires-2
     enum-known-answer-2
-    with-place-requires-3
+    verdict-of-requires
+    with-place-requires
     enum-known-answer-3
-    with-place-requires-4
+    with-place-requires-2
     enum-known-answer-4
-    with-place-requires-5
-    enum-known-answer-5
     with-counts-requires-2
-    enum-known-answer-6
+    enum-known-answer-5
     with-counts-requires-3
     returns
     returns-2
     returns-3
     returns-4
-    returns-5
-    returns-6
-    returns-7
-    returns-8)
+    returns-5)
