@@ -1,8 +1,8 @@
 // A line and its answer: by the kind of case that the line's first word names.
-use answers::cap_case;
-use answers::join_case;
-use answers::normal_case;
-use answers::root_case;
+use case_answers::cap_case;
+use case_answers::join_case;
+use case_answers::normal_case;
+use case_answers::root_case;
 use lines::words::Place;
 use lines::words::next_word;
 use printing::buffer::Buffer;
@@ -16,11 +16,11 @@ pub fn answer(line: &[u8], out: &mut Buffer, p: Printed) -> Printed {
     let end = word.end;
     let rest = word.rest;
     match kind_of(&line[start..end]) {
-        Kind::Mesh => mesh_case::answer(line, rest, out, p),
-        Kind::Read => read_case::answer(line, rest, out, p),
+        Kind::Mesh => case_mesh::answer(line, rest, out, p),
+        Kind::Read => case_read::answer(line, rest, out, p),
         Kind::Root => root_case::answer(line, rest, out, p),
         Kind::Normal => normal_case::answer(line, rest, out, p),
-        Kind::Window => window_case::answer(line, rest, out, p),
+        Kind::Window => case_window::answer(line, rest, out, p),
         Kind::Join => join_case::answer(line, rest, out, p),
         Kind::Cap => cap_case::answer(line, rest, out, p),
         Kind::None => bad_line(out, p),

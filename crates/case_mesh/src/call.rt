@@ -1,0 +1,59 @@
+// The mesh call, made on lists of the lengths that a line asks for, and its answer.
+use crate::front::Front;
+use crate::front::TRIANGLE_ROOM;
+use crate::front::VERTEX_ROOM;
+use case_answers::lent::fill_floats;
+use case_answers::lent::fill_numbers;
+use mesh::answer::MeshAnswer;
+use mesh::answer::mesh_answer_of;
+use mesh::tessellate;
+use options::Options;
+use printing::buffer::Buffer;
+use printing::buffer::Printed;
+use printing::replies::head;
+use printing::replies::mesh_lists;
+use printing::words::number;
+ghost use Prim.Native.Nat.{_≤_};
+ghost use lib.ListN.{length};
+
+// Of the rooms, the call is lent as much as the line asks for.
+pub fn answer_mesh(
+    out: &mut Buffer,
+    p: Printed,
+    front: Front,
+    verbs: &[u8],
+    coords: &[f32],
+) -> Printed
+    requires { ⌜ (front .floats ≤ 81920) × (front .numbers ≤ 49152) ⌝ }
+{
+    let mut v = [0.0f32; VERTEX_ROOM];
+    let mut t = [0u16; TRIANGLE_ROOM];
+    let n = front.floats;
+    let m = front.numbers;
+    let options = front.options;
+    answer_call(out, p, options, verbs, coords, &mut v[..n], &mut t[..m])
+}
+
+fn answer_call(
+    out: &mut Buffer,
+    p: Printed,
+    options: Options,
+    verbs: &[u8],
+    coords: &[f32],
+    v: &mut [f32],
+    t: &mut [u16],
+) -> Printed
+    requires { ⌜ (length (now v) ≤ 81920) × (length (now t) ≤ 81920) ⌝ }
+{
+    fill_floats(v);
+    fill_numbers(t);
+    let a = mesh_answer_of(tessellate(verbs, coords, options, v, t));
+    answered(out, p, a, v, t)
+}
+
+fn answered(out: &mut Buffer, p: Printed, a: MeshAnswer, v: &[f32], t: &[u16]) -> Printed {
+    let headed = head(out, p, b"mesh", a.number, a.place as u64);
+    let with_vertices = number(out, headed, a.vertices as u64);
+    let with_triangles = number(out, with_vertices, a.triangles as u64);
+    mesh_lists(out, with_triangles, v, t)
+}
