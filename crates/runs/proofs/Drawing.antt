@@ -1,4 +1,5 @@
--- A pass: what is counted and, where it writes, written is the runs that are done. Assumes nothing.
+-- A pass: what is counted and, where it writes, written is the runs that are done. The plan: runs one behind the other are pieces one behind the other; the run that a
+-- verb ends is drawn in the parts behind them; so `Going`, which says how far the pass has come, goes on verb by verb. Assumes nothing.
 use Prim.Native.Nat.{ℕ, _+_, _-_, _*_, _≤_, _<_}
 use mathlib.Core.Path.{_≡_}
 use mathlib.Core.Bool.{Bool, false, cond}

@@ -1,4 +1,5 @@
--- A pass over the verbs: the runs that are done and those to come are the path's runs. Assumes nothing.
+-- A pass over the verbs: the runs that are done and those to come are the path's runs. The plan: what one verb does to the cursor, by whether it names a point; then
+-- `Passing` from the start over a verb to the end. Assumes nothing.
 use Prim.Native.Nat.{ℕ, _+_, _≤_, _<_}
 use mathlib.Core.Path.{_≡_, refl, sym, ap, _∙_}
 use mathlib.Core.Bool.{Bool, true, false, cond}

@@ -1,4 +1,5 @@
--- Runs one behind the other: their vertices, triangles and counts. Assumes nothing.
+-- Runs one behind the other: their vertices, triangles and pieces; how many they are, wherever the numbers begin; and the counts' bounds (`Bounded`). Assumes
+-- nothing.
 use Prim.Native.Nat.{ℕ, _+_, _*_, _≤_}
 use mathlib.Core.Path.{_≡_, refl}
 use mathlib.Core.List.{List, [], _∷_, _++_, append-assoc}
@@ -21,11 +22,6 @@ module _ (o : Stroke) where
   vertices-append [] ys = refl
   vertices-append (x ∷ xs) ys = rw (vertices-append xs ys, append-assoc)
 
-  pub count-append : (xs ys : List (Run Endpoint)) → meshCount o (xs ++ ys) ≡ meshCount o xs + meshCount o ys
-  unfolding meshCount
-  count-append [] ys = omega arith
-  count-append (x ∷ xs) ys = omega (arith, count-append xs ys)
-
   pub triangles-append : (base : ℕ) (xs ys : List (Run Endpoint)) → meshTriangles o base (xs ++ ys) ≡ meshTriangles o base xs ++ meshTriangles o (base + meshCount o xs) ys
   unfolding meshTriangles meshCount
   triangles-append base [] ys = let n : base + 0 ≡ base = omega arith in rw n
@@ -45,7 +41,7 @@ module _ (o : Stroke) where
       rw (vertices-append xs ys, triangles-append (nextVertex k) xs ys, length-vertices xs, n)
 
   -- how many triangles there are does not hang on the number that the vertices begin with
-  pub triangles-anywhere : (base : ℕ) (rs : List (Run Endpoint)) → length (meshTriangles o base rs) ≡ length (meshTriangles o 0 rs)
+  triangles-anywhere : (base : ℕ) (rs : List (Run Endpoint)) → length (meshTriangles o base rs) ≡ length (meshTriangles o 0 rs)
   unfolding meshTriangles
   triangles-anywhere base [] = refl
   triangles-anywhere base (r ∷ rs) =

@@ -1,4 +1,5 @@
--- `runs::draw_runs` meets its contract. Assumes nothing.
+-- `runs::draw_runs` meets its contract. The plan: the loop's invariant is Drawing's `Going`, from its start (`going-none`) by one verb a turn (`going-turn`) to the
+-- end of the verbs (`going-all`). Assumes nothing.
 use Rattle.runs.proofs.draw_runs.Statement.{statement}
 use borrow.Author.Needs.{needs}
 use Prim.Native.Nat.{_-_}
@@ -7,6 +8,7 @@ use native.Mathlib.Omega.{arith}
 use lib.ListN.{length}
 use Rattle.pieces.specs.Piece.{lent}
 use Rattle.kept.specs.Points.{endpointsOf}
+use Rattle.runs.specs.Passes.{Inside}
 use Rattle.runs.proofs.Drawing.{Going, going-none, going-inside, going-fits, going-turn, going-all}
 use Rattle.runs.proofs.draw_runs.Tie as tie
 
@@ -16,9 +18,15 @@ Inv-loop v₀ t₀ pass verbs coords g₀ i₀ v t g i = Going (pass .write) (pa
 abbrev μ-loop : tie.MeasureT-loop
 μ-loop v₀ t₀ pass verbs coords g₀ i₀ v t g i = length verbs - i
 
--- from a call back to the one before it
+-- from a call back to the loop, and to the start
 abbrev to-loop : tie.After-draw-verb Inv-loop μ-loop → tie.At-loop Inv-loop μ-loop
 to-loop c = c .before .before .before .before .before
+
+abbrev entry : tie.At-loop Inv-loop μ-loop → tie.Start Inv-loop μ-loop
+entry c = c .before .before .before .before .before .before
+
+inside : (c : tie.At-loop Inv-loop μ-loop) → Inside (c .loop .g) (entry c .args .coords .now)
+inside c = going-inside (c .loop .inv .0) (entry c .args .coords .now) (entry c .pre .0)
 
 start-requires : tie.Need-start-requires Inv-loop μ-loop
 start-requires c κs = search needs
@@ -30,19 +38,22 @@ shared-slice-read-verb : tie.Need-shared-slice-read-verb Inv-loop μ-loop
 shared-slice-read-verb c = search needs
 
 draw-verb-requires : tie.Need-draw-verb-requires Inv-loop μ-loop
-draw-verb-requires c κs = (going-inside (c .before .before .before .before .loop .inv .0) (c .before .before .before .before .before .before .before .before .before .before .args .coords .now) (c .before .before .before .before .before .before .before .before .before .before .pre .0), going-fits (c .before .before .before .before .loop .inv .0) (c .before .before .before .loop-test .taken) (c .before .before .before .before .before .before .before .before .before .before .pre .1))
+draw-verb-requires c κs = let l = c .before .before .before .before in (inside l, going-fits (l .loop .inv .0) (c .before .before .before .loop-test .taken) (entry l .pre .1))
 
 moved-requires : tie.Need-moved-requires Inv-loop μ-loop
-moved-requires c κs = let a = going-inside (to-loop (c .before .before .before .before) .loop .inv .0) ((to-loop (c .before .before .before .before)) .before .before .before .before .before .before .args .coords .now) ((to-loop (c .before .before .before .before)) .before .before .before .before .before .before .pre .0) in omega (arith, a .end, a .few)
+moved-requires c κs = omega (arith, inside (to-loop (c .before .before .before .before)))
 
 add-i : tie.Need-add-i Inv-loop μ-loop
-add-i c = omega (arith, c .before .before .before .before .before .before .before .before .before .loop-test .taken, (to-loop (c .before .before .before .before .before)) .before .before .before .before .before .before .good .1 .1 .1 .0)
+add-i c = let d = c .before .before .before .before .before in omega (arith, d .before .before .before .before .loop-test .taken, entry (to-loop d) .good .1 .1 .1 .0)
 
 loop-less : tie.Need-loop-less Inv-loop μ-loop
 loop-less c = omega (arith, c .before .before .before .before .before .before .before .before .before .loop-test .taken)
 
 loop-again : tie.Need-loop-again Inv-loop μ-loop
-loop-again c = (rw (c .moved .ensures) (going-turn (to-loop (c .before .before .before .before .before) .loop .inv .0) (c .before .before .before .before .before .before .before .before .before .loop-test .taken) (c .before .before .before .before .before .draw-verb .ensures)), search (needs, to-loop (c .before .before .before .before .before) .loop .inv .1), search (needs, to-loop (c .before .before .before .before .before) .loop .inv .2))
+loop-again c =
+    let d = c .before .before .before .before .before in
+    let l = to-loop d .loop .inv in
+    (rw (c .moved .ensures) (going-turn (l .0) (d .before .before .before .before .loop-test .taken) (d .draw-verb .ensures)), search (needs, l .1), search (needs, l .2))
 
 same-length : tie.Need-same-length Inv-loop μ-loop
 same-length c = c .before .before .loop .inv .1
