@@ -1,4 +1,5 @@
--- `vertices::cap::tessellate_empty_square_cap` meets its contract. Assumes nothing.
+-- `vertices::cap::tessellate_empty_square_cap` meets its contract. The plan: the four corners are `put_corners`; the two triangles, of numbers counted from the first,
+-- stand one behind the other. Assumes nothing.
 use mathlib.Core.Path.{refl}
 use native.Mathlib.Nat.{le-trans}
 use native.Mathlib.Omega.{arith}
