@@ -1,4 +1,5 @@
--- Keeping and trimming, one point more at the end. Assumes nothing.
+-- Keeping and trimming, one point more at the end. The plan: the next point near or far; then the last kept point and what is kept (`last-more`), and what the closing
+-- end leaves, once a point stands behind. Assumes nothing.
 use mathlib.Core.Path.{_≡_, ap}
 use mathlib.Core.Bool.{Bool, true, false, cond, and-false}
 use mathlib.Core.List.{List, [], _∷_, _++_}
@@ -20,29 +21,18 @@ module _ (limit : Float) where
   lastKept l [] = l
   lastKept l (p ∷ ps) = cond (near limit l p) (lastKept l ps) (lastKept p ps)
 
-  pub last-near : (l : Endpoint) (xs : List Endpoint) (c : Endpoint) → near limit (lastKept l xs) c ≡ true → (lastKept l (xs ++ c ∷ []) ≡ lastKept l xs) × (keptBehind limit l (xs ++ c ∷ []) ≡ keptBehind limit l xs)
+  -- one point more, which is near the last kept point or not
+  pub last-more : (t : Bool) (l : Endpoint) (xs : List Endpoint) (c : Endpoint) → near limit (lastKept l xs) c ≡ t
+      → (lastKept l (xs ++ c ∷ []) ≡ cond t (lastKept l xs) c) × (keptBehind limit l (xs ++ c ∷ []) ≡ keptBehind limit l xs ++ cond t [] (c ∷ []))
   unfolding lastKept keptBehind
-  last-near l [] c h = (rw h, rw h)
-  last-near l (x ∷ xs) c h = go (near limit l x) h (last-near l xs c) (last-near x xs c)
+  last-more t l [] c h = (rw h, rw h)
+  last-more t l (x ∷ xs) c h = go (near limit l x) h (last-more t l xs c) (last-more t x xs c)
     where
-      go : (t : Bool) → near limit (cond t (lastKept l xs) (lastKept x xs)) c ≡ true
-          → (near limit (lastKept l xs) c ≡ true → (lastKept l (xs ++ c ∷ []) ≡ lastKept l xs) × (keptBehind limit l (xs ++ c ∷ []) ≡ keptBehind limit l xs))
-          → (near limit (lastKept x xs) c ≡ true → (lastKept x (xs ++ c ∷ []) ≡ lastKept x xs) × (keptBehind limit x (xs ++ c ∷ []) ≡ keptBehind limit x xs))
-          → (cond t (lastKept l (xs ++ c ∷ [])) (lastKept x (xs ++ c ∷ [])) ≡ cond t (lastKept l xs) (lastKept x xs))
-          × (cond t (keptBehind limit l (xs ++ c ∷ [])) (x ∷ keptBehind limit x (xs ++ c ∷ [])) ≡ cond t (keptBehind limit l xs) (x ∷ keptBehind limit x xs))
-      go true e f g = f e
-      go false e f g = (g e .0, ap (λ (z : List Endpoint). x ∷ z) (g e .1))
-
-  pub last-far : (l : Endpoint) (xs : List Endpoint) (c : Endpoint) → near limit (lastKept l xs) c ≡ false → (lastKept l (xs ++ c ∷ []) ≡ c) × (keptBehind limit l (xs ++ c ∷ []) ≡ keptBehind limit l xs ++ c ∷ [])
-  unfolding lastKept keptBehind
-  last-far l [] c h = (rw h, rw h)
-  last-far l (x ∷ xs) c h = go (near limit l x) h (last-far l xs c) (last-far x xs c)
-    where
-      go : (t : Bool) → near limit (cond t (lastKept l xs) (lastKept x xs)) c ≡ false
-          → (near limit (lastKept l xs) c ≡ false → (lastKept l (xs ++ c ∷ []) ≡ c) × (keptBehind limit l (xs ++ c ∷ []) ≡ keptBehind limit l xs ++ c ∷ []))
-          → (near limit (lastKept x xs) c ≡ false → (lastKept x (xs ++ c ∷ []) ≡ c) × (keptBehind limit x (xs ++ c ∷ []) ≡ keptBehind limit x xs ++ c ∷ []))
-          → (cond t (lastKept l (xs ++ c ∷ [])) (lastKept x (xs ++ c ∷ [])) ≡ c)
-          × (cond t (keptBehind limit l (xs ++ c ∷ [])) (x ∷ keptBehind limit x (xs ++ c ∷ [])) ≡ cond t (keptBehind limit l xs) (x ∷ keptBehind limit x xs) ++ c ∷ [])
+      go : (s : Bool) → near limit (cond s (lastKept l xs) (lastKept x xs)) c ≡ t
+          → (near limit (lastKept l xs) c ≡ t → (lastKept l (xs ++ c ∷ []) ≡ cond t (lastKept l xs) c) × (keptBehind limit l (xs ++ c ∷ []) ≡ keptBehind limit l xs ++ cond t [] (c ∷ [])))
+          → (near limit (lastKept x xs) c ≡ t → (lastKept x (xs ++ c ∷ []) ≡ cond t (lastKept x xs) c) × (keptBehind limit x (xs ++ c ∷ []) ≡ keptBehind limit x xs ++ cond t [] (c ∷ [])))
+          → (cond s (lastKept l (xs ++ c ∷ [])) (lastKept x (xs ++ c ∷ [])) ≡ cond t (cond s (lastKept l xs) (lastKept x xs)) c)
+          × (cond s (keptBehind limit l (xs ++ c ∷ [])) (x ∷ keptBehind limit x (xs ++ c ∷ [])) ≡ cond s (keptBehind limit l xs) (x ∷ keptBehind limit x xs) ++ cond t [] (c ∷ []))
       go true e f g = f e
       go false e f g = (g e .0, ap (λ (z : List Endpoint). x ∷ z) (g e .1))
 

@@ -1,9 +1,11 @@
--- Endpoints by their index among a run's coordinates. Assumes nothing.
+-- Endpoints by their index among a run's coordinates: the point at i and those behind it, how many there are, and the points of a part of the coordinates, which
+-- begins or ends with a point; at the end the parts that the passes take. Assumes nothing.
 use Prim.Native.Nat.{ℕ, zero, suc, _+_, _-_, _*_, _/_, _≤_}
-use mathlib.Core.Path.{_≡_, refl, ap, _∙_}
+use mathlib.Core.Path.{_≡_, refl, sym, ap, _∙_}
 use mathlib.Core.List.{List, [], _∷_}
 use native.Mathlib.Omega.{arith}
 use lib.ListN.{length, take, drop, getD}
+use lib.Seq.{getD-drop}
 use lib.Ieee.{Float}
 use Rattle.endpoint.specs.declared.Endpoint.{Endpoint}
 use Rattle.kept.specs.Points.{endpointsOf, endpointAt}
@@ -27,15 +29,9 @@ points-length (x ∷ []) first = refl
 points-length (x ∷ y ∷ p) first = omega (arith, points-length p (first + 1))
 
 pub points-get : (p : List Float) (first i : ℕ) (d : Endpoint) → 2 * i + 2 ≤ length p → getD (endpointsOf first p) i d ≡ endpointAt p first i
-unfolding endpointsOf
-points-get [] first i d h = absurd (omega arith)
-points-get (x ∷ []) first i d h = absurd (omega arith)
-points-get (x ∷ y ∷ p) first zero d h = let z : first + 0 ≡ first = omega arith in rw z
-points-get (x ∷ y ∷ p) first (suc i) d h =
-    let n : 2 * suc i ≡ suc (suc (2 * i)) = omega arith in
-    let m : 2 * suc i + 1 ≡ suc (suc (2 * i + 1)) = omega arith in
-    let l : first + suc i ≡ first + 1 + i = omega arith in
-    rw (m, n, l) (points-get p (first + 1) i d (omega arith))
+points-get p first i d h =
+    let z : i ≡ i + 0 = omega arith in
+    ap (λ (n : ℕ). getD (endpointsOf first p) n d) z ∙ sym (getD-drop i (endpointsOf first p) 0 d) ∙ rw (points-at p first i h)
 
 -- the points of a part
 pub points-take : (e first : ℕ) (p : List Float) → endpointsOf first (take (2 * e) p) ≡ take e (endpointsOf first p)

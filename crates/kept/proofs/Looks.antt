@@ -1,8 +1,9 @@
--- The looks for the second and for the last kept point, and what they say of the kept points. Assumes nothing.
+-- The looks for the second and for the last kept point, and what they say of the kept points. The plan: `Ending` says how far the look for the last has come, from
+-- its start over one point a turn to its end; behind it, what a run keeps by what either look found. Assumes nothing.
 use Prim.Native.Nat.{ℕ, suc, _+_, _-_, _*_, _/_, _<_, _≤_}
 use mathlib.Core.Path.{_≡_, refl, sym, ap, _∙_}
 use mathlib.Core.Bool.{Bool, true, false, cond}
-use mathlib.Core.List.{List, [], _∷_, _++_}
+use mathlib.Core.List.{List, [], _∷_, _++_, append-nil}
 use native.Mathlib.Omega.{arith}
 use lib.ListN.{length, take, drop, length-drop, drop-of-length-le}
 use lib.Seq.{take-suc, getD-drop, take-all}
@@ -13,7 +14,7 @@ use Rattle.kept.specs.declared.Look.{Look}
 use Rattle.kept.specs.Points.{endpointsOf, endpointAt}
 use Rattle.kept.specs.Looks.{FirstFar, lookedOf, Ended, runFrom}
 use Rattle.kept.proofs.Indexed.{points-at, points-length, points-get, points-take, points-first}
-use Rattle.kept.proofs.Further.{keep-far, lastKept, last-near, last-far, trim-near, trim-far}
+use Rattle.kept.proofs.Further.{keep-far, lastKept, last-more, trim-near, trim-far}
 
 module _ (limit : Float) where
   -- how far the look for the last point left of a closed run has come
@@ -53,16 +54,17 @@ module _ (limit : Float) where
       t : take (i + 1 - 1) (drop 1 (endpointsOf first p)) ≡ xs ++ c ∷ []
       t = take-next p first i (e .from) h
 
+      more : (a : Bool) → near limit (l .last) c ≡ a → (lastKept limit o (xs ++ c ∷ []) ≡ cond a (lastKept limit o xs) c) × (keptBehind limit o (xs ++ c ∷ []) ≡ keptBehind limit o xs ++ cond a [] (c ∷ []))
+      more a q = last-more limit a o xs c (ap (λ (u : Endpoint). near limit u c) (sym (e .last)) ∙ q)
+
+      turned : (l' : Look) → (1 ≤ l' .end) × (l' .end ≤ i + 1) → l' .last ≡ lastKept limit o (xs ++ c ∷ [])
+          → trimmed limit o (keptBehind limit o (xs ++ c ∷ [])) ≡ keptBehind limit o (take (l' .end - 1) (drop 1 (endpointsOf first p))) → Ending p first l' (i + 1)
+      turned l' b s m = record { from = omega arith; within = omega arith; least = b .0; below = b .1; last = rw t s; trim = rw t m }
+
       go : (a : Bool) → near limit (l .last) c ≡ a → (b : Bool) → near limit o c ≡ b → Ending p first (cond a l (record { last = c; end = cond b (l .end) (i + 1) })) (i + 1)
-      go true q b r =
-          let z = last-near limit o xs c (ap (λ (u : Endpoint). near limit u c) (sym (e .last)) ∙ q) in
-          record { from = omega arith; within = omega arith; least = e .least; below = omega (arith, e .below); last = e .last ∙ sym (ap (lastKept limit o) t ∙ z .0); trim = rw (t, z .1) (e .trim) }
-      go false q true r =
-          let z = last-far limit o xs c (ap (λ (u : Endpoint). near limit u c) (sym (e .last)) ∙ q) in
-          record { from = omega arith; within = omega arith; least = e .least; below = omega (arith, e .below); last = sym (ap (lastKept limit o) t ∙ z .0); trim = rw (t, z .1) (trim-near limit o (keptBehind limit o xs) c r ∙ e .trim) }
-      go false q false r =
-          let z = last-far limit o xs c (ap (λ (u : Endpoint). near limit u c) (sym (e .last)) ∙ q) in
-          record { from = omega arith; within = omega arith; least = omega arith; below = omega arith; last = sym (ap (lastKept limit o) t ∙ z .0); trim = rw (t, z .1) (trim-far limit o (keptBehind limit o xs) c r) }
+      go true q b r = turned l (omega (arith, e .least, e .below)) (e .last ∙ sym (more true q .0)) (rw (more true q .1, append-nil) (e .trim))
+      go false q true r = turned (record { last = c; end = l .end }) (omega (arith, e .least, e .below)) (sym (more false q .0)) (rw (more false q .1) (trim-near limit o (keptBehind limit o xs) c r ∙ e .trim))
+      go false q false r = turned (record { last = c; end = i + 1 }) (omega arith) (sym (more false q .0)) (rw (more false q .1, t, more false q .1) (trim-far limit o (keptBehind limit o xs) c r))
 
   pub ending-all : (p : List Float) (first : ℕ) (l : Look) (i : ℕ) → length p / 2 ≤ i → Ending p first l i → Ended limit p first (l .end)
   ending-all p first l i h e =

@@ -1,4 +1,5 @@
--- `kept::first_far` meets its contract. Assumes nothing.
+-- `kept::first_far` meets its contract. The plan: as long as no point was far, what is kept behind the first is what is kept of the points from i on; a point that is
+-- near (`told`) leaves that so, and one that is not ends the look. Assumes nothing.
 use borrow.Author.Needs.{needs}
 use Prim.Native.Nat.{_+_, _-_, _*_, _/_, _≤_}
 use mathlib.Core.Path.{_≡_, refl, sym, _∙_}
@@ -13,10 +14,17 @@ use Rattle.kept.proofs.first_far.Statement.{statement}
 use Rattle.kept.proofs.first_far.Tie as tie
 
 abbrev Inv-loop : tie.InvT-loop
-Inv-loop limit p first p0 end i₀ i = (1 ≤ i) × (i ≤ length p / 2) × (keptBehind limit (endpointAt p (first .0) 0) (drop 1 (endpointsOf (first .0) p)) ≡ keptBehind limit (endpointAt p (first .0) 0) (drop i (endpointsOf (first .0) p)))
+Inv-loop limit p first p0 end i₀ i =
+    let o = endpointAt p (first .0) 0 in
+    (1 ≤ i) × (i ≤ length p / 2) × (keptBehind limit o (drop 1 (endpointsOf (first .0) p)) ≡ keptBehind limit o (drop i (endpointsOf (first .0) p)))
 
 abbrev μ-loop : tie.MeasureT-loop
 μ-loop limit p first p0 end i₀ i = end - i
+
+-- the answer of `is_near`, told of the definitions
+told : (c : tie.After-is-near Inv-loop μ-loop) → let a = c .before .before .before .before .before .before .args in
+    near (a .limit) (endpointAt (a .p .now) (a .first .0) 0) (endpointAt (a .p .now) (a .first .0) (c .before .before .before .loop .i)) ≡ c .is-near .result
+told c = rw (c .before .endpoint-at2 .ensures, c .before .before .before .before .endpoint-at .ensures) at (sym (c .is-near .ensures))
 
 endpoint-at-requires : tie.Need-endpoint-at-requires Inv-loop μ-loop
 endpoint-at-requires c κs = omega (arith, c .before .pre)
@@ -33,9 +41,7 @@ is-near-requires c κs = search needs
 returns : tie.Need-returns Inv-loop μ-loop
 returns c =
     let l = c .before .before .before .before .loop in
-    let start = c .before .before .before .before .before .before .before in
-    let e : near (start .args .limit) (endpointAt (start .args .p .now) (start .args .first .0) 0) (endpointAt (start .args .p .now) (start .args .first .0) (l .i)) ≡ _ = rw (c .before .before .endpoint-at2 .ensures, c .before .before .before .before .before .endpoint-at .ensures) at (sym (c .before .is-near .ensures)) in
-    record { least = l .inv .0; within = l .inv .1; kept = l .inv .2; far = λ h. e ∙ not-true _ (c .if1 .taken) }
+    record { least = l .inv .0; within = l .inv .1; kept = l .inv .2; far = λ h. told (c .before) ∙ not-true _ (c .if1 .taken) }
 
 add-i : tie.Need-add-i Inv-loop μ-loop
 add-i c = search needs
@@ -46,12 +52,9 @@ loop-less c = search needs
 loop-again : tie.Need-loop-again Inv-loop μ-loop
 loop-again c =
     let l = c .before .before .before .before .loop in
-    let start = c .before .before .before .before .before .before .before in
-    let p = start .args .p .now in
-    let first = start .args .first .0 in
-    let h : 2 * l .i + 2 ≤ length p = omega (arith, c .before .before .before .loop-test .taken) in
-    let e : near (start .args .limit) (endpointAt p first 0) (endpointAt p first (l .i)) ≡ _ = rw (c .before .before .endpoint-at2 .ensures, c .before .before .before .before .before .endpoint-at .ensures) at (sym (c .before .is-near .ensures)) in
-    (omega arith, omega (arith, c .before .before .before .loop-test .taken), l .inv .2 ∙ rw (points-at p first (l .i) h) (keep-near _ _ _ _ (e ∙ not-false _ (c .if1 .left))))
+    let a = c .before .before .before .before .before .before .before .args in
+    let h : 2 * l .i + 2 ≤ length (a .p .now) = omega (arith, c .before .before .before .loop-test .taken) in
+    (omega arith, omega (arith, h), l .inv .2 ∙ rw (points-at (a .p .now) (a .first .0) (l .i) h) (keep-near _ _ _ _ (told (c .before) ∙ not-false _ (c .if1 .left))))
 
 returns-2 : tie.Need-returns-2 Inv-loop μ-loop
 returns-2 c =

@@ -32,15 +32,16 @@ loop-less c = search needs
 
 loop-again : tie.Need-loop-again Inv-loop μ-loop
 loop-again c =
-    let l = c .before .before .before .loop in
-    let start = c .before .before .before .before .before .before in
-    rw (c .looked .ensures, c .before .endpoint-at2 .ensures, c .before .before .before .before .endpoint-at .ensures) (ending-turn (start .args .limit) (start .args .p .now) (start .args .first .0) (l .l) (l .i) (c .before .before .loop-test .taken) (l .inv))
+    let l = c .before .before .before in
+    let a = l .before .before .before .args in
+    rw (c .looked .ensures, c .before .endpoint-at2 .ensures, l .before .endpoint-at .ensures)
+    (ending-turn (a .limit) (a .p .now) (a .first .0) (l .loop .l) (l .loop .i) (c .before .before .loop-test .taken) (l .loop .inv))
 
 returns : tie.Need-returns Inv-loop μ-loop
 returns c =
-    let l = c .before .loop in
-    let start = c .before .before .before .before in
-    ending-all (start .args .limit) (start .args .p .now) (start .args .first .0) (l .l) (l .i) (c .loop-test .left) (l .inv)
+    let l = c .before in
+    let a = l .before .before .before .args in
+    ending-all (a .limit) (a .p .now) (a .first .0) (l .loop .l) (l .loop .i) (c .loop-test .left) (l .loop .inv)
 
 pub kept-end-spec : {M : Type 1} → statement M
 kept-end-spec =
