@@ -24,7 +24,9 @@ data-of-requires c κs = search needs
 
 returns : tie.Need-returns
 unfolding capOf
-returns c = rw (c .data-of .ensures, c .before .single2 .ensures, c .before .before .plus2 .ensures, c .before .before .before .single .ensures, c .before .before .before .before .plus .ensures, c .before .before .before .before .before .times .ensures)
+returns c =
+    let s = c .before .before .before in
+    rw (c .data-of .ensures, c .before .single2 .ensures, c .before .before .plus2 .ensures, s .single .ensures, s .before .plus .ensures, s .before .before .times .ensures)
 
 pub cap-spec : {M : Type 1} → statement M
 cap-spec =
