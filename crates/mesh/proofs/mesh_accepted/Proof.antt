@@ -48,8 +48,11 @@ fits-requires c κs = search needs
 
 draw-runs-requires-2 : tie.Need-draw-runs-requires-2
 draw-runs-requires-2 c κs =
-    let pre = (to-is-plenty-from-count-accepted (to-count-accepted (c .before .before .before .before))) .before .before .before .before .before .pre in
-    (sound-paired _ _ (pre .1), mesh-fits _ _ _ (pre .1) (pre .0) _ (to-count-accepted (c .before .before .before .before) .count-accepted .ensures) _ (c .before .before .before .before .judged .ensures) (sym (c .before .before .before .fits2 .ensures) ∙ c .before .before .if2 .taken))
+    let j = c .before .before .before .before in
+    let n = to-count-accepted j in
+    let pre = to-is-plenty-from-count-accepted n .before .before .before .before .before .pre in
+    let e = sym (c .before .before .before .fits2 .ensures) ∙ c .before .before .if2 .taken in
+    (sound-paired _ _ (pre .1), mesh-fits _ _ _ (pre .1) (pre .0) _ (n .count-accepted .ensures) _ (j .judged .ensures) e)
 
 same-length-3 : tie.Need-same-length-3
 same-length-3 c = search needs
@@ -59,8 +62,12 @@ same-length-4 c = search needs
 
 returns-2 : tie.Need-returns-2
 returns-2 c =
-    let pre = (to-is-plenty-from-count-accepted (to-count-accepted (to-judged (c .before .before .before .before)))) .before .before .before .before .before .pre in
-    is-drawn _ _ _ (pre .1) (pre .0) _ (to-count-accepted (to-judged (c .before .before .before .before)) .count-accepted .ensures) _ (to-judged (c .before .before .before .before) .judged .ensures) (sym (c .before .before .before .before .before .before .before .before .fits2 .ensures) ∙ c .before .before .before .before .before .before .before .if2 .taken) (c .before .before .before .before .draw-runs2 .ensures)
+    let d = c .before .before .before .before in
+    let j = to-judged d in
+    let n = to-count-accepted j in
+    let pre = to-is-plenty-from-count-accepted n .before .before .before .before .before .pre in
+    let e = sym (d .before .before .before .before .fits2 .ensures) ∙ d .before .before .before .if2 .taken in
+    is-drawn _ _ _ (pre .1) (pre .0) _ (n .count-accepted .ensures) _ (j .judged .ensures) e (d .draw-runs2 .ensures)
 
 same-length-5 : tie.Need-same-length-5
 same-length-5 c = search needs

@@ -39,7 +39,12 @@ edge-side-requires-2 c κs = search needs
 
 returns : tie.Need-returns
 unfolding edgeOf
-returns c = rw (c .edge-side2 .ensures, c .before .minus3 .ensures, c .before .before .minus2 .ensures, c .before .before .before .edge-side .ensures, c .before .before .before .before .plus2 .ensures, c .before .before .before .before .before .plus .ensures, c .before .before .before .before .before .before .times .ensures, c .before .before .before .before .before .before .before .turned .ensures, c .before .before .before .before .before .before .before .before .over .ensures, c .before .before .before .before .before .before .before .before .before .length .ensures, c .before .before .before .before .before .before .before .before .before .before .minus .ensures)
+returns c =
+    let offset = c .before .before .before .before .before .before in
+    let t = offset .before .before in
+    rw (c .edge-side2 .ensures, c .before .minus3 .ensures, c .before .before .minus2 .ensures, c .before .before .before .edge-side .ensures) (
+    rw (c .before .before .before .before .plus2 .ensures, c .before .before .before .before .before .plus .ensures) (
+    rw (offset .times .ensures, offset .before .turned .ensures, t .over .ensures, t .before .length .ensures, t .before .before .minus .ensures)))
 
 pub edge-of-spec : {M : Type 1} → statement M
 edge-of-spec =
