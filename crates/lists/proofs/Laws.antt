@@ -1,4 +1,5 @@
--- Laws of `over` and `putAt`: the length is kept, and lists one behind the other are written in turn, however long they are. Assumes nothing.
+-- Laws of `over` and `putAt`: the length is kept, and lists one behind the other are written in turn, however long they are. In this order: at the start of a list,
+-- from a place on, and the same of lists that are spelt. Assumes nothing.
 use Prim.Native.Nat.{ℕ, zero, suc, _+_, _*_, _≤_, _<_}
 use mathlib.Core.Path.{_≡_, refl, ap}
 use mathlib.Core.List.{List, [], _∷_, _++_, append-assoc}
@@ -36,21 +37,13 @@ module _ {A : Type 0} where
   over-one a xs h = over-next [] a xs h
 
   pub over-two : (a b : A) (xs : List A) → 2 ≤ length xs → set (set xs 0 a) 1 b ≡ over (a ∷ b ∷ []) xs
-  over-two a b xs h =
-      let h1 : 1 ≤ length xs = omega arith in
-      rw (over-one a xs h1, over-next (a ∷ []) b xs h)
+  over-two a b xs h = rw (over-one a xs (omega arith), over-next (a ∷ []) b xs h)
 
   pub over-three : (a b c : A) (xs : List A) → 3 ≤ length xs → set (set (set xs 0 a) 1 b) 2 c ≡ over (a ∷ b ∷ c ∷ []) xs
-  over-three a b c xs h =
-      let h2 : 2 ≤ length xs = omega arith in
-      rw (over-two a b xs h2, over-next (a ∷ b ∷ []) c xs h)
+  over-three a b c xs h = rw (over-two a b xs (omega arith), over-next (a ∷ b ∷ []) c xs h)
 
   pub over-five : (a b c d e : A) (xs : List A) → 5 ≤ length xs → set (set (set (set (set xs 0 a) 1 b) 2 c) 3 d) 4 e ≡ over (a ∷ b ∷ c ∷ d ∷ e ∷ []) xs
-  over-five a b c d e xs h =
-      let h2 : 3 ≤ length xs = omega arith in
-      let h3 : 3 < length xs = omega arith in
-      let h4 : 4 < length xs = omega arith in
-      rw (over-three a b c xs h2, over-next (a ∷ b ∷ c ∷ []) d xs h3, over-next (a ∷ b ∷ c ∷ d ∷ []) e xs h4)
+  over-five a b c d e xs h = rw (over-three a b c xs (omega arith), over-next (a ∷ b ∷ c ∷ []) d xs (omega arith), over-next (a ∷ b ∷ c ∷ d ∷ []) e xs h)
 
   -- two lists one behind the other
   pub over-append : (vs ws xs : List A) → length vs ≤ length xs → over (vs ++ ws) xs ≡ take (length vs) (over vs xs) ++ over ws (drop (length vs) (over vs xs))
@@ -96,7 +89,7 @@ module _ {A : Type 0} where
   put-over (v ∷ vs) ws (x ∷ xs) = ap (λ (l : List A). v ∷ l) (put-over vs ws xs)
 
   -- vs at k, and ws behind them
-  pub put-append : (k : ℕ) (vs ws xs : List A) → putAt (k + length vs) ws (putAt k vs xs) ≡ putAt k (vs ++ ws) xs
+  put-append : (k : ℕ) (vs ws xs : List A) → putAt (k + length vs) ws (putAt k vs xs) ≡ putAt k (vs ++ ws) xs
   unfolding putAt
   put-append zero vs ws xs = let e : 0 + length vs ≡ length vs = omega arith in rw e (put-over vs ws xs)
   put-append (suc k) vs ws [] = let e : suc k + length vs ≡ suc (k + length vs) = omega arith in rw e

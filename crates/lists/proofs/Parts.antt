@@ -33,8 +33,7 @@ module _ {A : Type 0} where
       let p : List A = take k v in
       let q : List A = over ws (drop k v) in
       let l : length p ≡ k = length-take-le k v (omega arith) in
-      let d : length ws ≤ length (drop k v) = simp length-drop (omega arith) in
-      rw (take-past p q k (length ws) l, drop-past p q k (length ws) l, over-append ws rest (drop k v) d)
+      rw (take-past p q k (length ws) l, drop-past p q k (length ws) l, over-append ws rest (drop k v) (simp length-drop (omega arith)))
       (sym (append-assoc p (take (length ws) q) (over rest (drop (length ws) q))))
 
   -- the same where a callee got the part from k on: what was to come is what is still to come
@@ -42,17 +41,15 @@ module _ {A : Type 0} where
       → take k v ++ over (ws ++ rest) (drop k v) ≡ take (k + m) (putMid k (length v - k) v ys) ++ over rest (drop (k + m) (putMid k (length v - k) v ys))
   turn v ys ws rest k m l h e =
       let r : k ≤ length v = omega arith in
-      let r2 : k + length ws ≤ length v = omega arith in
       let e2 : putMid k (length v - k) v ys ≡ take k v ++ over ws (drop k v) = rw (put-is v ys k r, e, part-is v k r) in
-      rw (e2, ← l) (step v ws rest k r2)
+      rw (e2, ← l) (step v ws rest k (omega arith))
 
   -- two writers: the first at the start, the second in the part behind what the first wrote
   pub behind : (xs ys zs vs ws : List A) (k : ℕ) → length vs ≡ k → k ≤ length xs → ys ≡ over vs xs → zs ≡ over ws (midOf k (length ys - k) ys)
       → putMid k (length ys - k) ys zs ≡ over (vs ++ ws) xs
   behind xs ys zs vs ws k l h e f =
       let r : k ≤ length ys = rw (e, length-over vs xs) h in
-      let h2 : length vs ≤ length xs = omega arith in
-      rw (put-is ys zs k r, f, part-is ys k r, e, ← l) (sym (over-append vs ws xs h2))
+      rw (put-is ys zs k r, f, part-is ys k r, e, ← l) (sym (over-append vs ws xs (omega arith)))
 
   -- what a callee wrote at the start of the part from k on stands at k
   pub put-part : (v ys ws : List A) (k : ℕ) → k ≤ length v → ys ≡ over ws (midOf k (length v - k) v) → putMid k (length v - k) v ys ≡ putAt k ws v
