@@ -1,4 +1,5 @@
--- Laws for whoever writes pieces: nothing, two pieces one behind the other, and what a callee did in the parts that it was lent. Assumes nothing.
+-- Laws for whoever writes pieces: nothing, two pieces one behind the other, and what a callee did in the parts that it was lent. In this order: of pieces, of lists,
+-- of passes over both, and of lists lent anew from a place on. Assumes nothing.
 use Prim.Native.Nat.{ℕ, _+_, _-_, _*_, _≤_}
 use mathlib.Core.Path.{_≡_, refl, sym, ap, _∙_}
 use mathlib.Core.Bool.{Bool, true, false, cond, true≢false}
@@ -39,7 +40,7 @@ pub laid-none : (k : Place) (l : Lists) → laid k none l ≡ l
 unfolding flat
 laid-none k l = rw (put-none (5 * k .vertices) (l .vertices), put-none (3 * k .triangles) (l .triangles))
 
-pub laid-joined : (k : Place) (p q : Piece) (l : Lists) → laid (behind k p) q (laid k p l) ≡ laid k (joined p q) l
+laid-joined : (k : Place) (p q : Piece) (l : Lists) → laid (behind k p) q (laid k p l) ≡ laid k (joined p q) l
 laid-joined k p q l = rw (put-flat floatsOf 5 (λ v. refl) (k .vertices) (p .vertices) (q .vertices) (l .vertices), put-flat numbersOf 3 (λ t. refl) (k .triangles) (p .triangles) (q .triangles) (l .triangles))
 
 -- from the start of the lists on
@@ -73,12 +74,7 @@ module _ {write : Bool} {k : Place} {l : Lists} where
   fits-front p q h =
       let a = length-append (p .vertices) (q .vertices) in
       let b = length-append (p .triangles) (q .triangles) in
-      record {
-        numbers = omega (arith, h .numbers);
-        faces = omega (arith, h .faces);
-        vertices = λ w. omega (arith, h .vertices w);
-        triangles = λ w. omega (arith, h .triangles w);
-      }
+      record { numbers = omega (arith, h .numbers); faces = omega (arith, h .faces); vertices = λ w. omega (arith, h .vertices w); triangles = λ w. omega (arith, h .triangles w) }
 
   pub fits-back : (p q : Piece) → Fits write k (joined p q) l → {l1 : Lists} {k1 : Place} → Puts write k p l l1 k1 → Fits write k1 q l1
   fits-back p q h e =
@@ -108,16 +104,14 @@ module _ (k : Place) (p : Piece) (v : List Float) (t : List ℕ) where
   reached r = record { base = k .base; vertices = k .vertices + r .vertices; triangles = k .triangles + r .triangles }
 
   pub parts-inside : (write : Bool) → Fits write k p (lent v t) → (cond write (5 * k .vertices) 0 ≤ length v) × (cond write (3 * k .triangles) 0 ≤ length t)
-  parts-inside true f = (omega (arith, f .vertices refl), omega (arith, f .triangles refl))
-  parts-inside false f = (omega arith, omega arith)
+  parts-inside true f = omega (arith, f .vertices refl, f .triangles refl)
+  parts-inside false f = omega arith
 
   pub parts-fit : (write : Bool) → Fits write k p (lent v t) → Fits write (anew k) p (parts (cond write (5 * k .vertices) 0) (cond write (3 * k .triangles) 0))
-  parts-fit true f = record {
-    numbers = omega (arith, f .numbers);
-    faces = omega (arith, f .faces);
-    vertices = λ _. let h = part-room v (5 * k .vertices) (5 * length (p .vertices)) (omega (arith, f .vertices refl)) in omega (arith, h);
-    triangles = λ _. let h = part-room t (3 * k .triangles) (3 * length (p .triangles)) (omega (arith, f .triangles refl)) in omega (arith, h);
-  }
+  parts-fit true f =
+      let a = part-room v (5 * k .vertices) (5 * length (p .vertices)) (omega (arith, f .vertices refl)) in
+      let b = part-room t (3 * k .triangles) (3 * length (p .triangles)) (omega (arith, f .triangles refl)) in
+      record { numbers = omega (arith, f .numbers); faces = omega (arith, f .faces); vertices = λ _. omega (arith, a); triangles = λ _. omega (arith, b) }
   parts-fit false f = record { numbers = omega (arith, f .numbers); faces = omega (arith, f .faces); vertices = λ w. absurd (true≢false (sym w)); triangles = λ w. absurd (true≢false (sym w)) }
 
   place-is : (r : Place) → r ≡ behind (anew k) p → reached r ≡ behind k p
