@@ -31,14 +31,6 @@ strip-home true s e = append-nil (between e s)
 strip-home false s e = refl
 
 -- a step of a run that has begun
-step-begins : (s : Strip) (j : EndpointData) → stepOf s j .begun ≡ true
-unfolding stepOf
-step-begins s j = refl
-
-step-last : (s : Strip) (j : EndpointData) → afterOf (nextOf s) j ≡ stepOf s j .last
-unfolding stepOf
-step-last s j = refl
-
 step-begun : (s : Strip) (j : EndpointData) → s .begun ≡ true → past (s .last) (beforeOf (nextOf s) j) (afterOf (nextOf s) j) ≡ stepTriangles s j
 unfolding stepTriangles
 step-begun s j b = rw b
@@ -50,15 +42,13 @@ steps-first s (j ∷ js) b = steps-first (stepOf s j) js refl ∙ rw b
 
 strip-steps : (s : Strip) (js : List EndpointData) (zs : List Section) → s .begun ≡ true
     → stripOf (s .last) (sections (nextOf s) js ++ zs) ≡ trianglesFrom s js ++ stripOf (stepsOf s js .last) zs
-unfolding sections trianglesFrom stepsOf
+unfolding sections trianglesFrom stepsOf stepOf
 strip-steps s [] zs b = refl
 strip-steps s (j ∷ js) zs b =
     let base = nextOf s in
     let rest : List Section = sections (base + jointCount j) js ++ zs in
-    let n : base + jointCount j ≡ nextOf (stepOf s j) = sym (step-next s j) in
     let on : List Tri = stripOf (stepsOf (stepOf s j) js .last) zs in
-    let e : stripOf (afterOf base j) rest ≡ trianglesFrom (stepOf s j) js ++ on =
-    rw (n, step-last s j) (strip-steps (stepOf s j) js zs (step-begins s j)) in
+    let e : stripOf (afterOf base j) rest ≡ trianglesFrom (stepOf s j) js ++ on = rw (← step-next s j) (strip-steps (stepOf s j) js zs refl) in
     strip-two (s .last) (beforeOf base j) (afterOf base j) rest ∙ rw (step-begun s j b, e) (sym (append-assoc (stepTriangles s j) (trianglesFrom (stepOf s j) js) on))
 
 -- the step that begins a run
@@ -66,15 +56,10 @@ start-triangles : (base : VertexId) (j : EndpointData) → stepTriangles (startO
 unfolding stepTriangles
 start-triangles base j = rw (between-same (beforeOf (nextOf (startOf base)) j))
 
-start-sections : (base : VertexId) (j : EndpointData)
-    → (stepOf (startOf base) j .first ≡ beforeOf (nextOf (startOf base)) j) × (stepOf (startOf base) j .last ≡ afterOf (nextOf (startOf base)) j)
-unfolding stepOf
-start-sections base j = (refl, refl)
-
 -- a run's triangles are those of its steps, and in a closed run those round to the first section
 triangles-from : (closed : Bool) (base : VertexId) (js : List EndpointData)
     → trianglesOf closed (nextOf (startOf base)) js ≡ trianglesFrom (startOf base) js ++ cond closed (between (stepsOf (startOf base) js .last) (stepsOf (startOf base) js .first)) []
-unfolding through sections trianglesFrom stepsOf
+unfolding through sections trianglesFrom stepsOf stepOf
 triangles-from true base [] = sym (between-same (sectionOf 0 0))
 triangles-from false base [] = refl
 triangles-from closed base (j ∷ js) =
@@ -82,13 +67,11 @@ triangles-from closed base (j ∷ js) =
     let b = beforeOf (nextOf (startOf base)) j in
     let a = afterOf (nextOf (startOf base)) j in
     let zs : List Section = cond closed (b ∷ []) [] in
-    let n : nextOf (startOf base) + jointCount j ≡ nextOf s = sym (step-next (startOf base) j) in
-    let f : stepsOf s js .first ≡ b = steps-first s js (step-begins (startOf base) j) ∙ start-sections base j .0 in
+    let f : stepsOf s js .first ≡ b = steps-first s js refl in
     let l = stepsOf s js .last in
-    let e : stripOf a (sections (nextOf (startOf base) + jointCount j) js ++ zs) ≡ trianglesFrom s js ++ stripOf l zs =
-    rw (n, ← start-sections base j .1) (strip-steps s js zs (step-begins (startOf base) j)) in
+    let e : stripOf a (sections (nextOf (startOf base) + jointCount j) js ++ zs) ≡ trianglesFrom s js ++ stripOf l zs = rw (← step-next (startOf base) j) (strip-steps s js zs refl) in
     strip-next b a (sections (nextOf (startOf base) + jointCount j) js ++ zs)
-    ∙ rw (e, strip-home closed b l, f, start-triangles base j) (sym (append-assoc (between b a) (trianglesFrom s js) (cond closed (between l b) [])))
+    ∙ rw (e, strip-home closed b l, f, ← start-triangles base j) (sym (append-assoc (stepTriangles (startOf base) j) (trianglesFrom s js) (cond closed (between l b) [])))
 
 pub triangles-are : (closed : Bool) (base : VertexId) (js : List EndpointData)
     → trianglesOf closed (base .0) js ≡ trianglesFrom (startOf base) js ++ cond closed (between (stepsOf (startOf base) js .last) (stepsOf (startOf base) js .first)) []
