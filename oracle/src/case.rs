@@ -108,6 +108,7 @@ fn mesh(words: &mut Words) -> Option<MeshCase> {
             limit: words.float()?,
             join: words.number(255)? as u8,
             cap: words.number(255)? as u8,
+            merge: words.float()?,
         },
         vertex_len: words.number(MAX_VERTEX_LIST)?,
         triangle_len: words.number(MAX_TRIANGLE_LIST)?,
@@ -122,6 +123,7 @@ fn mesh_line(case: &MeshCase) -> String {
         .float(case.options.limit)
         .number(usize::from(case.options.join))
         .number(usize::from(case.options.cap))
+        .float(case.options.merge)
         .number(case.vertex_len)
         .number(case.triangle_len)
         .bytes(&case.verbs)

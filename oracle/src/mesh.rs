@@ -15,10 +15,13 @@ pub struct Options {
     pub limit: f32,
     pub join: u8,
     pub cap: u8,
+    pub merge: f32,
 }
 
 pub const WIDTHS: (f32, f32) = (1.0 / 256.0, 16_384.0);
 pub const LIMITS: (f32, f32) = (1.0, 1024.0);
+/// W-201: "The fixed 1/128 becomes an option from 1/128 to 1."
+pub const MERGES: (f32, f32) = (1.0 / 128.0, 1.0);
 
 /// Options once checked, in the words of the rules.
 #[derive(Clone, Copy, Debug)]
@@ -29,13 +32,16 @@ pub struct Stroke {
     pub square: bool,
     /// Rule 7: "clip is h for Square and 0 for Butt".
     pub clip: f32,
+    /// W-201: the merge "range squared in f32".
+    pub near: f32,
 }
 
 impl Options {
     /// Refusal 1: an option outside its range, NaN included.
     pub fn check(&self) -> Result<Stroke, Refusal> {
         let within = |x: f32, range: (f32, f32)| range.0 <= x && x <= range.1;
-        let floats = within(self.width, WIDTHS) && within(self.limit, LIMITS);
+        let floats =
+            within(self.width, WIDTHS) && within(self.limit, LIMITS) && within(self.merge, MERGES);
         let half_width = self.width * 0.5;
         match LineJoin::of(self.join) {
             Some(join) if floats && self.cap <= 1 => Ok(Stroke {
@@ -44,6 +50,7 @@ impl Options {
                 join,
                 square: self.cap == 1,
                 clip: if self.cap == 1 { half_width } else { 0.0 },
+                near: self.merge * self.merge,
             }),
             _ => Err(Refusal {
                 number: 1,
@@ -57,7 +64,7 @@ impl Options {
 pub fn drawn<R: Routines>(path: Path, options: Options) -> Result<Mesh, Refusal> {
     let stroke = options.check()?;
     path.check()?;
-    let runs = path.runs();
+    let runs = path.runs(stroke.near);
     check_edges(&runs, &stroke)?;
     let mut mesh = Mesh::default();
     for run in &runs {
@@ -123,6 +130,7 @@ mod tests {
             join: LineJoin::Bevel,
             square: false,
             clip: 0.0,
+            near: 1.0 / 16_384.0,
         };
         let run = |places: &[f32], closed| Run {
             kept: places.iter().map(|&x| (0, point(x, 0.0))).collect(),

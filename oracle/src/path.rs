@@ -11,9 +11,6 @@ pub const END_CLOSED: u8 = 3;
 pub const MAX_VERBS: usize = 4096;
 pub const MAX_COORDINATE: f32 = 32_768.0;
 
-/// 2^-14: a point nearer than this to the last kept, squared, is dropped.
-const NEAR: f32 = 1.0 / 16_384.0;
-
 #[derive(Clone, Copy, Debug)]
 pub struct Path<'a> {
     pub verbs: &'a [u8],
@@ -28,9 +25,10 @@ pub struct Run {
     pub has_line: bool,
 }
 
-/// Rule 1: "its f32 squared distance ... is below 2^-14".
-pub fn near(a: Point, b: Point) -> bool {
-    (a - b).square_length() < NEAR
+/// Rule 1: "its f32 squared distance ... is below 2^-14", which W-201 makes the merge range
+/// squared.
+pub fn are_near(near: f32, a: Point, b: Point) -> bool {
+    (a - b).square_length() < near
 }
 
 impl Path<'_> {
@@ -48,7 +46,7 @@ impl Path<'_> {
     }
 
     /// The runs of a checked path. Endpoints are numbered over all begins and lines.
-    pub fn runs(&self) -> Vec<Run> {
+    pub fn runs(&self, near: f32) -> Vec<Run> {
         let mut runs = Vec::new();
         let mut run = Run::default();
         let mut points = self.coordinates.chunks_exact(2).zip(0..);
@@ -56,10 +54,10 @@ impl Path<'_> {
             if verb == BEGIN || verb == LINE {
                 let (xy, number) = points.next().expect("two coordinates to each");
                 run.has_line |= verb == LINE;
-                run.keep(number, point(xy[0], xy[1]));
+                run.keep(near, number, point(xy[0], xy[1]));
             } else {
                 run.closed = verb == END_CLOSED;
-                run.drop_on_closing();
+                run.drop_on_closing(near);
                 runs.push(std::mem::take(&mut run));
             }
         }
@@ -90,19 +88,19 @@ fn first_misplaced(verbs: &[u8]) -> Option<usize> {
 
 impl Run {
     /// Rule 1: a later point is dropped if it is near the last kept.
-    fn keep(&mut self, number: u32, place: Point) {
+    fn keep(&mut self, near: f32, number: u32, place: Point) {
         match self.kept.last() {
-            Some(&(_, last)) if near(place, last) => {}
+            Some(&(_, last)) if are_near(near, place, last) => {}
             _ => self.kept.push((number, place)),
         }
     }
 
     /// Rule 1: "On a closed end, the last kept is dropped while more than one is kept and it is
     /// that near p0."
-    fn drop_on_closing(&mut self) {
+    fn drop_on_closing(&mut self, near: f32) {
         while self.closed && self.kept.len() > 1 {
             let (_, last) = self.kept[self.kept.len() - 1];
-            if !near(last, self.kept[0].1) {
+            if !are_near(near, last, self.kept[0].1) {
                 return;
             }
             self.kept.pop();

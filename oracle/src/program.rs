@@ -6,12 +6,13 @@ use crate::reader::read;
 use crate::routines::Routines;
 use std::fmt::Write;
 
-/// "width 2, limit 4, Miter, Butt"
+/// "width 2, limit 4, Miter, Butt", and points merged as before W-201
 const OPTIONS: Options = Options {
     width: 2.0,
     limit: 4.0,
     join: 0,
     cap: 0,
+    merge: 1.0 / 128.0,
 };
 
 /// What the program prints for a text.

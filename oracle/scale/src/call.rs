@@ -52,6 +52,7 @@ impl Lists {
             options.limit,
             options.join.into(),
             options.cap.into(),
+            options.merge,
             self.vertices.ours(),
             self.triangles.ours(),
             self.answer.ours(),

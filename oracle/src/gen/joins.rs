@@ -3,7 +3,7 @@
 use super::paths::{accepted, far_corner};
 use super::rng::Rng;
 use crate::case::{JoinCase, Reached};
-use crate::path::{near, Path};
+use crate::path::{are_near, Path};
 use crate::plane::Point;
 use crate::strip::endpoints;
 
@@ -14,7 +14,7 @@ pub fn join(rng: &mut Rng) -> JoinCase {
             verbs: &drawn.verbs,
             coordinates: &drawn.coordinates,
         };
-        let runs = path.runs();
+        let runs = path.runs(stroke.near);
         if runs.is_empty() {
             continue;
         }
@@ -25,7 +25,7 @@ pub fn join(rng: &mut Rng) -> JoinCase {
         let at = rng.below(ends.len() - 2);
         let corner = [at, at + 1, at + 2].map(|i| (ends[i].position, ends[i].advancement));
         let points = if rng.one_in(16) {
-            far_on(rng, corner)
+            far_on(rng, stroke.near, corner)
         } else {
             corner
         };
@@ -39,11 +39,11 @@ pub fn join(rng: &mut Rng) -> JoinCase {
 }
 
 /// The same corner behind many of the longest edges: its advancements are rounded coarsely.
-fn far_on(rng: &mut Rng, corner: [Reached; 3]) -> [Reached; 3] {
+fn far_on(rng: &mut Rng, near: f32, corner: [Reached; 3]) -> [Reached; 3] {
     let edges = rng.below(4_000);
     let [(a, _), (b, _), (c, _)] = corner;
     let last = far_corner(edges);
-    if near(last, a) {
+    if are_near(near, last, a) {
         return corner;
     }
     let longest = (far_corner(1) - far_corner(0)).length();

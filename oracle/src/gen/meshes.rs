@@ -3,7 +3,7 @@
 use super::paths::{long_path, options, path};
 use super::rng::{ulps, Rng};
 use crate::case::{MeshCase, MAX_TRIANGLE_LIST, MAX_VERTEX_LIST};
-use crate::mesh::{drawn, LIMITS, WIDTHS};
+use crate::mesh::{drawn, LIMITS, MERGES, WIDTHS};
 use crate::path::{Path, BEGIN, END_OPEN, LINE, MAX_COORDINATE, MAX_VERBS};
 use crate::routines::Reading;
 use crate::vertices::Mesh;
@@ -50,10 +50,11 @@ fn spoil_option(rng: &mut Rng, case: &mut MeshCase) {
             f32::from_bits(1),
         ])
     };
-    match rng.below(4) {
+    match rng.below(5) {
         0 => case.options.width = beyond(rng, WIDTHS),
         1 => case.options.limit = beyond(rng, LIMITS),
-        2 => case.options.join = rng.pick(&[3, 4, 128, 255]),
+        2 => case.options.merge = beyond(rng, MERGES),
+        3 => case.options.join = rng.pick(&[3, 4, 128, 255]),
         _ => case.options.cap = rng.pick(&[2, 3, 128, 255]),
     }
 }

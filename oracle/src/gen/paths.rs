@@ -2,7 +2,7 @@
 
 use super::rng::{ulps, Rng};
 use super::shapes::{any_coordinate, shape};
-use crate::mesh::{Options, Stroke, LIMITS, WIDTHS};
+use crate::mesh::{Options, Stroke, LIMITS, MERGES, WIDTHS};
 use crate::normal::compute_normal;
 use crate::path::{BEGIN, END_CLOSED, END_OPEN, LINE, MAX_VERBS};
 use crate::plane::{point, Point};
@@ -11,9 +11,18 @@ use crate::plane::{point, Point};
 pub struct Drawn {
     pub verbs: Vec<u8>,
     pub coordinates: Vec<f32>,
+    /// The merge range about which its near points lie.
+    pub merge: f32,
 }
 
 impl Drawn {
+    fn new(rng: &mut Rng) -> Drawn {
+        Drawn {
+            merge: merge(rng),
+            ..Drawn::default()
+        }
+    }
+
     pub fn run(&mut self, points: &[Point], closed: bool) {
         for (i, p) in points.iter().enumerate() {
             self.verbs.push(if i == 0 { BEGIN } else { LINE });
@@ -30,9 +39,9 @@ pub fn path(rng: &mut Rng) -> Drawn {
         2..=9 => 2 + rng.below(3),
         _ => 1,
     };
-    let mut drawn = Drawn::default();
+    let mut drawn = Drawn::new(rng);
     for _ in 0..runs {
-        drawn.run(&shape(rng), rng.one_in(2));
+        drawn.run(&shape(rng, drawn.merge), rng.one_in(2));
     }
     if rng.one_in(100) {
         far_and_short(rng, &mut drawn);
@@ -43,7 +52,7 @@ pub fn path(rng: &mut Rng) -> Drawn {
 /// A run whose advancement is so great that short edges vanish in it.
 fn far_and_short(rng: &mut Rng, drawn: &mut Drawn) {
     let mut points: Vec<Point> = (0..rng.below(120)).map(far_corner).collect();
-    points.extend(shape(rng));
+    points.extend(shape(rng, drawn.merge));
     drawn.run(&points, rng.one_in(2));
 }
 
@@ -55,7 +64,7 @@ pub fn far_corner(i: usize) -> Point {
 
 /// Just as many verbs as are accepted, or one more, in one run or in many.
 pub fn long_path(rng: &mut Rng) -> Drawn {
-    let mut drawn = Drawn::default();
+    let mut drawn = Drawn::new(rng);
     let verbs = MAX_VERBS + rng.below(2);
     let points = |rng: &mut Rng, n: usize| -> Vec<Point> {
         (0..n)
@@ -87,7 +96,21 @@ pub fn options(rng: &mut Rng, drawn: &Drawn) -> Options {
         limit: limit(rng, drawn),
         join: rng.below(3) as u8,
         cap: rng.below(2) as u8,
+        merge: drawn.merge,
     }
+}
+
+/// At and inside the limits, and of every size. A range that is no power of two has a square
+/// that is rounded.
+fn merge(rng: &mut Rng) -> f32 {
+    let (least, most) = MERGES;
+    let merge = match rng.below(6) {
+        0 | 1 => least,
+        2 => rng.pick(&[ulps(least, 1), most, most, ulps(most, -1)]),
+        3 => rng.pick(&[0.5, 0.15, 0.1, 0.75]),
+        _ => rng.scale(-7, 0),
+    };
+    merge.clamp(least, most)
 }
 
 /// At and inside the limits, of every size, or about as wide as an edge is long.

@@ -4,19 +4,24 @@ use super::rng::{ulps, Rng};
 use crate::path::MAX_COORDINATE;
 use crate::plane::{point, vector, Point};
 
-/// 1/128: points this far apart are just kept.
-const KEPT: f32 = 1.0 / 128.0;
 /// One step of the places below 32,768.
 const STEP: f32 = 1.0 / 512.0;
 
-const SHAPES: [fn(&mut Rng) -> Vec<Point>; 16] = [
-    walk, walk, grid, grid, hairpin, sharp, collinear, diagonal, border, steps, nears, closing,
-    single, chain, mixed, known,
+const SHAPES: [fn(&mut Rng) -> Vec<Point>; 13] = [
+    walk, walk, grid, grid, hairpin, sharp, collinear, diagonal, border, steps, chain, mixed, known,
 ];
 
-pub fn shape(rng: &mut Rng) -> Vec<Point> {
-    let make = rng.pick(&SHAPES);
-    let points = make(rng);
+/// Points as far apart as `merge`, the range, are just kept.
+pub fn shape(rng: &mut Rng, merge: f32) -> Vec<Point> {
+    let points = match rng.below(16) {
+        0 => nears(rng, merge),
+        1 => closing(rng, merge),
+        2 => single(rng, merge),
+        _ => {
+            let make = rng.pick(&SHAPES);
+            make(rng)
+        }
+    };
     framed(rng, points)
 }
 
@@ -154,20 +159,24 @@ fn steps(rng: &mut Rng) -> Vec<Point> {
 }
 
 /// Steps just near, just kept, and about these.
-fn nears(rng: &mut Rng) -> Vec<Point> {
+fn nears(rng: &mut Rng, merge: f32) -> Vec<Point> {
     let mut at = point(0.0, 0.0);
     let mut points = vec![at];
     for _ in 0..1 + rng.below(6) {
-        let just = ulps(KEPT, rng.within(-2, 2));
+        let just = ulps(merge, rng.within(-2, 2));
         // The root of a half: both components share the distance.
-        let half = ulps(0.005_524_272, rng.within(-2, 2));
+        let half = ulps(merge * 0.707_106_77, rng.within(-2, 2));
+        // Three, four and five: each square is rounded, and their sum.
+        let (three, four) = (just * 0.6, just * 0.8);
         let far = vector(3.0, rng.signed());
         let step = [
             vector(just, 0.0),
             vector(0.0, -just),
             vector(half, half),
             vector(-half, half),
-            vector(KEPT / 2.0, 0.0),
+            vector(three, four),
+            vector(four, -three),
+            vector(merge / 2.0, 0.0),
             far,
         ];
         at = at + rng.pick(&step);
@@ -177,12 +186,12 @@ fn nears(rng: &mut Rng) -> Vec<Point> {
 }
 
 /// Last points that all fall to the closing drop, each far from the one before it.
-fn closing(rng: &mut Rng) -> Vec<Point> {
+fn closing(rng: &mut Rng, merge: f32) -> Vec<Point> {
     let mut points = vec![point(0.0, 0.0)];
     for _ in 0..rng.below(4) {
         points.push(point(rng.signed() * 8.0, rng.signed() * 8.0));
     }
-    let near = ulps(KEPT, rng.within(-3, 1));
+    let near = ulps(merge, rng.within(-3, 1));
     let ring = [(near, 0.0), (-near, 0.0), (0.0, near), (0.0, -near)];
     let turn = rng.below(4);
     for i in 0..1 + rng.below(4) {
@@ -193,12 +202,12 @@ fn closing(rng: &mut Rng) -> Vec<Point> {
 }
 
 /// One point, and points so near that they are dropped.
-fn single(rng: &mut Rng) -> Vec<Point> {
+fn single(rng: &mut Rng, merge: f32) -> Vec<Point> {
     let at = point(rng.signed() * 100.0, rng.signed() * 100.0);
     let more = rng.below(4);
     let mut points = vec![at];
     for _ in 0..more {
-        points.push(at + vector(rng.signed(), rng.signed()) * (KEPT / 2.0));
+        points.push(at + vector(rng.signed(), rng.signed()) * (merge / 2.0));
     }
     points
 }

@@ -24,6 +24,7 @@ pub fn options(width: f32, limit: f32, join: u8, cap: u8) -> Options {
         limit,
         join,
         cap,
+        merge: 1.0 / 128.0,
     }
 }
 

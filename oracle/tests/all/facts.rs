@@ -81,7 +81,7 @@ fn meshes_are_ladders() {
         check_floats(&mesh);
         let stroke = case.options.check().expect("accepted options");
         let (mut vertex, mut triangle) = (0, 0);
-        for run in path(&case).runs() {
+        for run in path(&case).runs(stroke.near) {
             let (vertices, triangles) = counts(&run, &stroke);
             let of_run = &mesh.triangles[triangle..triangle + triangles];
             check_ladder(of_run, vertex, vertices);

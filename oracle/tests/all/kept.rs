@@ -2,8 +2,12 @@
 
 use oracle::path::{Path, BEGIN, END_CLOSED, END_OPEN, LINE};
 
-/// The endpoint numbers of the kept points.
+/// The endpoint numbers of the points kept at the least merge range, 1/128.
 fn kept(points: &[(f32, f32)], closed: bool) -> Vec<u32> {
+    kept_at(1.0 / 128.0, points, closed)
+}
+
+fn kept_at(merge: f32, points: &[(f32, f32)], closed: bool) -> Vec<u32> {
     let mut verbs = vec![LINE; points.len()];
     verbs[0] = BEGIN;
     verbs.push(if closed { END_CLOSED } else { END_OPEN });
@@ -12,7 +16,7 @@ fn kept(points: &[(f32, f32)], closed: bool) -> Vec<u32> {
         verbs: &verbs,
         coordinates: &coordinates,
     };
-    let runs = path.runs();
+    let runs = path.runs(merge * merge);
     assert_eq!(runs.len(), 1);
     runs[0].kept.iter().map(|&(number, _)| number).collect()
 }
@@ -48,4 +52,30 @@ fn closing_drops_several_points() {
     // A far point ends the dropping, whatever came before it.
     let points = [points[0], points[2], points[1], points[3]];
     assert_eq!(kept(&points, true), [0, 2]);
+}
+
+/// W-201: "The nearness test's contract speaks of that range squared in f32".
+#[test]
+fn the_merge_range_is_squared_in_f32() {
+    // Exactly 0.12 and 0.09 are 0.15 apart; of the f32 squares 0.0225 is not below 0.0225.
+    assert_eq!(kept_at(0.15, &[(0.0, 0.0), (0.12, 0.09)], false), [0, 1]);
+    assert!(f64::from(0.12f32).hypot(f64::from(0.09f32)) < f64::from(0.15f32));
+    // Squared the range is 0.25, and 0.36 is not below it.
+    assert_eq!(kept_at(0.5, &[(0.0, 0.0), (0.6, 0.0)], false), [0, 1]);
+    assert_eq!(kept_at(0.5, &[(0.0, 0.0), (0.4, 0.0)], false), [0]);
+    assert_eq!(kept_at(1.0, &[(0.0, 0.0), (1.0, 0.0)], false), [0, 1]);
+}
+
+#[test]
+fn closing_is_judged_by_the_merge_range() {
+    let points = [
+        (0.0, 0.0),
+        (10.0, 0.0),
+        (10.0, 10.0),
+        (0.9, 0.0),
+        (0.0, 0.9),
+    ];
+    assert_eq!(kept_at(1.0, &points, true), [0, 1, 2]);
+    assert_eq!(kept_at(1.0, &points, false), [0, 1, 2, 3, 4]);
+    assert_eq!(kept(&points, true), [0, 1, 2, 3, 4]);
 }

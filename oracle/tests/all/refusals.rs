@@ -16,6 +16,7 @@ const GOOD: Options = Options {
     limit: 4.0,
     join: 0,
     cap: 0,
+    merge: 1.0 / 128.0,
 };
 
 #[test]
@@ -23,6 +24,7 @@ fn options_at_and_beyond_their_limits() {
     let with = |options| stroke(options, &[]).refusal();
     let width = |width| with(Options { width, ..GOOD });
     let limit = |limit| with(Options { limit, ..GOOD });
+    let merge = |merge| with(Options { merge, ..GOOD });
     for good in [1.0 / 256.0, 16_384.0] {
         assert_eq!(width(good), (0, 0));
     }
@@ -41,6 +43,20 @@ fn options_at_and_beyond_their_limits() {
     }
     for bad in [down(1.0), up(1024.0), 0.0, -4.0, f32::NAN, f32::INFINITY] {
         assert_eq!(limit(bad), (1, 0));
+    }
+    for good in [1.0 / 128.0, 1.0] {
+        assert_eq!(merge(good), (0, 0));
+    }
+    for bad in [
+        down(1.0 / 128.0),
+        1.0 / 256.0,
+        up(1.0),
+        0.0,
+        -0.5,
+        f32::NAN,
+        f32::INFINITY,
+    ] {
+        assert_eq!(merge(bad), (1, 0));
     }
     for number in 0..=255 {
         let join = Options {

@@ -1,5 +1,5 @@
 //! `speed [POINTS]`: nanoseconds a point of the linked library and of the oracle, on the same open
-//! runs in one run of the program. Edges are 5 long; Miter 4, Butt, width 2. The best of many
+//! runs in one run of the program. Edges are 5 long; Miter 4, Butt, width 2, merge range 1/128. The best of many
 //! rounds counts, since a busy machine only adds.
 
 use oracle::mesh::{mesh, Options};
@@ -9,6 +9,7 @@ use std::time::Instant;
 use stipeharbor::raw;
 
 const ROUNDS: usize = 400;
+const MERGE: f32 = 1.0 / 128.0;
 
 struct Input {
     verbs: Vec<u8>,
@@ -60,7 +61,7 @@ fn main() {
         let mut answer = [0usize; 3];
         let mut ours = |v: &mut [f32], t: &mut [u16]| {
             assert_eq!(
-                raw::tessellate(&verbs, &coords, 2.0, 4.0, 0, 0, v, t, &mut answer),
+                raw::tessellate(&verbs, &coords, 2.0, 4.0, 0, 0, MERGE, v, t, &mut answer),
                 0
             );
             answer
@@ -77,6 +78,7 @@ fn main() {
             limit: 4.0,
             join: 0,
             cap: 0,
+            merge: MERGE,
         };
         let oracle = best(points, || {
             let path = Path {
