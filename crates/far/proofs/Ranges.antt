@@ -1,8 +1,8 @@
 -- What the checks of a call tell of its numbers: an accepted coordinate is finite and at most 32,768 in size, the half width of accepted options is
--- finite and at most 8,192, and their limit of nearness at least 2 ^ -14. Assumes nothing.
+-- finite and at most 8,192, and their merge range squared at least 2 ^ -14. Assumes nothing.
 use mathlib.Core.Path.{_≡_, refl, sym, ap, subst}
 use Prim.Native.Nat.{ℕ, _*_, _≤_, _<_}
-use native.Mathlib.Nat.{le-refl, le-of-eq, le-of-lt, mul-pos}
+use native.Mathlib.Nat.{le-trans, le-of-eq, le-of-lt, mul-le-mul, mul-le-mul-right, mul-pos}
 use native.Mathlib.Omega.{arith}
 use mathlib.Core.Bool.{Bool, true, false, _&&_, _||_, false≢true}
 use lib.Dec.{T, ltb, eqb, ltb→lt, eqb→eq, lit<}
@@ -13,13 +13,14 @@ use lib.Ieee.Positive.{num, den, den-pos, between, positive-finite, le→cross}
 use Rattle.plane.specs.Normal.{pick}
 use Rattle.plane.specs.declared.vector.Point.{Point}
 use Rattle.path.specs.Coordinates.{coordinateIn}
-use Rattle.options.specs.Options.{within, widthIn, limitIn, joinIn, capIn, inRange, nearSquare, preparedOf, accepting, strokeOf}
+use Rattle.options.specs.Options.{within, widthIn, limitIn, mergeIn, joinIn, capIn, inRange, preparedOf, accepting, strokeOf}
 use Rattle.options.specs.declared.Options.{Options}
 use Rattle.options.specs.declared.Stroke.{Stroke}
 use Rattle.options.specs.declared.StrokeAnswer.{StrokeAnswer}
-use Rattle.rounding.proofs.Scales.{one, speck}
+use Rattle.rounding.proofs.Rounding.{rounded}
+use Rattle.rounding.proofs.Scales.{one, speck, le-rounded-specks}
 use Rattle.rounding.proofs.Values.{sign, finite-value, mul-round}
-use Rattle.rounding.proofs.Results.{whole, made, made-bounded, Within, bounded-within}
+use Rattle.rounding.proofs.Results.{whole, Made, made, made-bounded, Within, bounded-within}
 
 -- both components finite, and at most 32,768 in size
 pub record Inside (p : Point) : Type 0 where
@@ -91,18 +92,71 @@ halved w p =
     small : (x y : ℕ) → x ≤ 16384 * y → x * 1 ≤ 8192 * (y * 2)
     small x y h = omega arith
 
--- ---- accepted options
-width-in : (o : Options) → inRange o ≡ true → T (widthIn (o .width))
-unfolding inRange
-width-in o e =
-    let w = widthIn (o .width) in
-    let l = limitIn (o .«miter_limit») in
-    let r = joinIn (o .«line_join») && capIn (o .cap) in
-    and-l w l (and-l (w && l) r (told (w && l && r) e))
+-- ---- the merge range squared
+merge-bounds : (r : Float) → T (mergeIn r) → (den r ≤ 128 * num r) × Within 1 r
+unfolding within ofBits
+merge-bounds r t =
+    let l = and-l (le (ofBits binary32 0x3c000000) r) (le r (ofBits binary32 0x3f800000)) t in
+    let h = and-r (le (ofBits binary32 0x3c000000) r) (le r (ofBits binary32 0x3f800000)) t in
+    let p = between (ofBits binary32 0x3c000000) r (ofBits binary32 0x3f800000) tt tt l h in
+    let low = le→cross (ofBits binary32 0x3c000000) r tt p l in
+    let high = le→cross r (ofBits binary32 0x3f800000) p tt h in
+    (large (num r) (den r) low, (positive-finite r p, small (num r) (den r) high))
+  where
+    large : (x y : ℕ) → 1 * 1 * y ≤ x * 128 → y ≤ 128 * x
+    large x y h = omega arith
 
-pub accepted : (options : Options) (o : Stroke) → strokeOf options ≡ accepting o → T (widthIn (options .width)) × (preparedOf options ≡ o)
+    small : (x y : ℕ) → x * 1 ≤ 1 * 1 * y → x ≤ 1 * y
+    small x y h = omega arith
+
+alike : (s : Bool) → unlike s s ≡ false
+alike true = refl
+alike false = refl
+
+one-specks : one ≡ 4194304 * speck
+unfolding one speck
+one-specks = refl
+
+squared : (r : Float) → (den r ≤ 128 * num r) × Within 1 r → Limit (mul binary32 r r)
+squared r b =
+    let n = num r in
+    let d = den r in
+    let z = mul binary32 r r in
+    let v = finite-value r (b .1 .0) in
+    let C = mul-pos (den-pos r) (den-pos r) in
+    let e = mul-round r r (sign r) (sign r) n d n d (den-pos r) (den-pos r) v v in
+    let m : Made z false (n * n) (d * d) 1 =
+    made z false (n * n) (d * d) 1 C (whole 1 (lit< tt)) (rw (alike (sign r)) at e) (le-trans (mul-le-mul (b .1 .1) (b .1 .1)) (le-of-eq (unit d))) in
+    let l : d * d ≤ 16384 * (n * n) = le-trans (mul-le-mul (b .0) (b .0)) (le-of-eq (regroup n)) in
+    record { size = rounded (n * n * one) (d * d); value = m .value; least = le-rounded-specks 256 (n * n * one) (d * d) (lit< tt) C (large (d * d) (n * n) l) }
+  where
+    unit : (d : ℕ) → 1 * d * (1 * d) ≡ 1 * (d * d)
+    unit d = omega arith
+
+    regroup : (n : ℕ) → 128 * n * (128 * n) ≡ 16384 * (n * n)
+    regroup n = omega arith
+
+    large : (x y : ℕ) → x ≤ 16384 * y → 256 * speck * x ≤ y * one
+    large x y h = omega (arith, mul-le-mul-right speck h, ap (λ (z : ℕ). y * z) one-specks)
+
+-- ---- accepted options
+module _ (o : Options) (e : inRange o ≡ true) where
+  abbrev floats : Bool
+  floats = widthIn (o .width) && limitIn (o .«miter_limit») && mergeIn (o .«merge_range»)
+
+  floats-in : T floats
+  unfolding inRange
+  floats-in = and-l floats (joinIn (o .«line_join») && capIn (o .cap)) (told (inRange o) e)
+
+  width-in : T (widthIn (o .width))
+  width-in = and-l (widthIn (o .width)) (limitIn (o .«miter_limit»)) (and-l (widthIn (o .width) && limitIn (o .«miter_limit»)) (mergeIn (o .«merge_range»)) floats-in)
+
+  merge-in : T (mergeIn (o .«merge_range»))
+  merge-in = and-r (widthIn (o .width) && limitIn (o .«miter_limit»)) (mergeIn (o .«merge_range»)) floats-in
+
+pub accepted : (options : Options) (o : Stroke) → strokeOf options ≡ accepting o → (inRange options ≡ true) × (preparedOf options ≡ o)
 unfolding strokeOf
-accepted options o e = let a = chosen (inRange options) (preparedOf options) _ refl e in (width-in options (a .0), a .1)
+accepted options o e = chosen (inRange options) (preparedOf options) _ refl e
   where
     chosen : (t : Bool) (s : Stroke) (refused : StrokeAnswer) → 1 ≡ refused .number → pick t (accepting s) refused ≡ accepting o → (t ≡ true) × (s ≡ o)
     chosen true s refused r e = (refl, ap (λ (a : StrokeAnswer). a .stroke) e)
@@ -115,16 +169,14 @@ prepared-half o = refl
 pub half-width : (options : Options) (o : Stroke) → strokeOf options ≡ accepting o → Half (o .«half_width»)
 half-width options o e =
     let a = accepted options o e in
-    subst (λ (s : Stroke). Half (s .«half_width»)) (a .1) (subst Half (sym (prepared-half options)) (halved (options .width) (width-bound (options .width) (a .0))))
+    subst (λ (s : Stroke). Half (s .«half_width»)) (a .1) (subst Half (sym (prepared-half options)) (halved (options .width) (width-bound (options .width) (width-in options (a .0)))))
 
--- ---- the limit of nearness
-near-square : Limit nearSquare
-unfolding ofBits one speck
-near-square = record { size = 256 * speck; value = (refl, refl); least = le-refl (256 * speck) }
-
-prepared-near : (o : Options) → preparedOf o .near ≡ nearSquare
+prepared-near : (o : Options) → preparedOf o .near ≡ mul binary32 (o .«merge_range») (o .«merge_range»)
 unfolding preparedOf
 prepared-near o = refl
 
 pub near-limit : (options : Options) (o : Stroke) → strokeOf options ≡ accepting o → Limit (o .near)
-near-limit options o e = subst (λ (s : Stroke). Limit (s .near)) (accepted options o e .1) (subst Limit (sym (prepared-near options)) near-square)
+near-limit options o e =
+    let a = accepted options o e in
+    let r = options .«merge_range» in
+    subst (λ (s : Stroke). Limit (s .near)) (a .1) (subst Limit (sym (prepared-near options)) (squared r (merge-bounds r (merge-in options (a .0)))))

@@ -40,8 +40,12 @@ lineJoinOf n = pick (eqb n 0) Miter (pick (eqb n 1) MiterClip Bevel)
 abbrev pub capIn : ℕ → Bool
 capIn n = leb n 1
 
+-- W-201: "The fixed 1/128 becomes an option from 1/128 to 1."
+abbrev pub mergeIn : Float → Bool
+mergeIn r = within (f32 0x3c000000) r (f32 0x3f800000)
+
 unfoldable pub inRange : Options → Bool
-inRange o = widthIn (o .width) && limitIn (o .«miter_limit») && (joinIn (o .«line_join») && capIn (o .cap))
+inRange o = widthIn (o .width) && limitIn (o .«miter_limit») && mergeIn (o .«merge_range») && (joinIn (o .«line_join») && capIn (o .cap))
 
 unfoldable pub lineCapOf : ℕ → LineCap
 lineCapOf n = pick (eqb n 0) Butt Square
@@ -51,11 +55,7 @@ abbrev pub clipOf : LineCap → Float → Float
 clipOf Butt h = f32 0
 clipOf Square h = h
 
--- "squared distance .. below 2^-14": the square of 1/128
-abbrev pub nearSquare : Float
-nearSquare = f32 0x38800000
-
--- "Half width h is width * 0.5."
+-- "Half width h is width * 0.5."; W-201: "that range squared in f32"
 unfoldable pub preparedOf : Options → Stroke
 preparedOf o =
     let h = o .width ⊗ f32 0x3f000000 in
@@ -65,7 +65,7 @@ preparedOf o =
       «line_join» = lineJoinOf (o .«line_join»);
       cap = lineCapOf (o .cap);
       clip = clipOf (lineCapOf (o .cap)) h;
-      near = nearSquare;
+      near = o .«merge_range» ⊗ o .«merge_range»;
     }
 
 -- the values of a refusal: zeros, Miter and Butt

@@ -18,6 +18,8 @@ pub struct Options {
     // The shape of both ends of an open run: 0 Butt, ending at the point; 1 Square, half a width
     // beyond it.
     pub cap: u32,
+    // A point nearer than this to the last one kept is merged with it: 1/128 to 1.
+    pub merge_range: f32,
 }
 
 pub enum LineCap {
@@ -34,7 +36,7 @@ pub struct Stroke {
     pub cap: LineCap,
     // How far a cap stands out beyond its point.
     pub clip: f32,
-    // Points whose squared distance is below this are near (rule 1).
+    // Points whose squared distance is below this are near (rule 1): the merge range squared.
     pub near: f32,
 }
 
@@ -58,7 +60,7 @@ fn is_within(low: f32, x: f32, high: f32) -> bool
     low <= x && x <= high
 }
 
-// The least width, 1/256, is 0.00390625.
+// The least width, 1/256, is 0.00390625; the least merge range, 1/128, is 0.0078125.
 fn is_in_range(o: Options) -> bool
     ensures { λ r. ⌜ r ≡ inRange o ⌝ }
 {
@@ -66,6 +68,9 @@ fn is_in_range(o: Options) -> bool
         return false;
     }
     if !is_within(1.0, o.miter_limit, 1024.0) {
+        return false;
+    }
+    if !is_within(0.0078125, o.merge_range, 1.0) {
         return false;
     }
     o.line_join <= 2 && o.cap <= 1
@@ -100,7 +105,7 @@ fn clip_of(number: u32, h: f32) -> f32
     }
 }
 
-// What options within their ranges come to. 2^-14, the square of 1/128, is 0.00006103515625.
+// What options within their ranges come to.
 fn prepared(o: Options) -> Stroke
     ensures { λ r. ⌜ r ≡ preparedOf o ⌝ }
 {
@@ -111,7 +116,7 @@ fn prepared(o: Options) -> Stroke
         line_join: line_join_of(o.line_join),
         cap: line_cap_of(o.cap),
         clip: clip_of(o.cap, h),
-        near: 0.00006103515625,
+        near: o.merge_range * o.merge_range,
     }
 }
 

@@ -25,25 +25,50 @@ returns-2 c =
     let m = not-true (c .before .is-within2 .result) (c .if2 .taken) in
     rw (← wide .before .is-within .ensures, w, ← c .before .is-within2 .ensures, m)
 
+is-within-requires-3 : tie.Need-is-within-requires-3
+is-within-requires-3 c κs = search needs
+
 returns-3 : tie.Need-returns-3
 unfolding inRange
 returns-3 c =
-    let sharp = c .before .before .before in
-    let wide = sharp .before .before in
-    let w = not-false (wide .before .is-within .result) (wide .if1 .left) in
-    let m = not-false (sharp .before .is-within2 .result) (sharp .if2 .left) in
-    rw (← wide .before .is-within .ensures, w, ← sharp .before .is-within2 .ensures, m, le-leb _ _ (c .before .if3 .taken))
-
-returns-4 : tie.Need-returns-4
-unfolding inRange
-returns-4 c =
     let sharp = c .before .before in
     let wide = sharp .before .before in
     let w = not-false (wide .before .is-within .result) (wide .if1 .left) in
     let m = not-false (sharp .before .is-within2 .result) (sharp .if2 .left) in
-    rw (← wide .before .is-within .ensures, w, ← sharp .before .is-within2 .ensures, m, lt-leb _ _ (c .if3 .left))
+    let r = not-true (c .before .is-within3 .result) (c .if3 .taken) in
+    rw (← wide .before .is-within .ensures, w, ← sharp .before .is-within2 .ensures, m, ← c .before .is-within3 .ensures, r)
+
+returns-4 : tie.Need-returns-4
+unfolding inRange
+returns-4 c =
+    let near = c .before .before .before in
+    let sharp = near .before .before in
+    let wide = sharp .before .before in
+    let w = not-false (wide .before .is-within .result) (wide .if1 .left) in
+    let m = not-false (sharp .before .is-within2 .result) (sharp .if2 .left) in
+    let r = not-false (near .before .is-within3 .result) (near .if3 .left) in
+    rw (← wide .before .is-within .ensures, w, ← sharp .before .is-within2 .ensures, m, ← near .before .is-within3 .ensures, r, le-leb _ _ (c .before .if4 .taken))
+
+returns-5 : tie.Need-returns-5
+unfolding inRange
+returns-5 c =
+    let near = c .before .before in
+    let sharp = near .before .before in
+    let wide = sharp .before .before in
+    let w = not-false (wide .before .is-within .result) (wide .if1 .left) in
+    let m = not-false (sharp .before .is-within2 .result) (sharp .if2 .left) in
+    let r = not-false (near .before .is-within3 .result) (near .if3 .left) in
+    rw (← wide .before .is-within .ensures, w, ← sharp .before .is-within2 .ensures, m, ← near .before .is-within3 .ensures, r, lt-leb _ _ (c .if4 .left))
 
 pub is-in-range-spec : {M : Type 1} → statement M
 is-in-range-spec =
     tie.close
-    (tie.spec is-within-requires returns is-within-requires-2 returns-2 returns-3 returns-4)
+    (tie.spec
+    is-within-requires
+    returns
+    is-within-requires-2
+    returns-2
+    is-within-requires-3
+    returns-3
+    returns-4
+    returns-5)

@@ -15,7 +15,7 @@ clip-of-requires c κs = search needs
 
 returns : tie.Need-returns
 unfolding preparedOf
-returns c = rw (c .before .before .line-join-of .ensures, c .before .line-cap-of .ensures, c .clip-of .ensures)
+returns c = rw (c .before .before .before .line-join-of .ensures, c .before .before .line-cap-of .ensures, c .before .clip-of .ensures)
 
 pub prepared-spec : {M : Type 1} → statement M
 prepared-spec =
