@@ -1,4 +1,4 @@
-// `WIDTH LIMIT JOIN CAP VERTEXLEN TRIANGLELEN`: the words of a line before its path.
+// `WIDTH LIMIT JOIN CAP MERGE VERTEXLEN TRIANGLELEN`: the words of a line before its path.
 use lines::floats::read;
 use lines::numbers::read_up_to;
 use lines::words::Place;
@@ -51,13 +51,16 @@ fn read_options(line: &[u8], place: Place) -> OptionsRead {
     let join = read_up_to(line, after_limit, 255);
     let after_join = join.rest;
     let cap = read_up_to(line, after_join, 255);
-    let rest = cap.rest;
+    let after_cap = cap.rest;
+    let merge = read(line, after_cap);
+    let rest = merge.rest;
     OptionsRead {
         options: Options {
             width: width.value,
             miter_limit: limit.value,
             line_join: join.value as u32,
             cap: cap.value as u32,
+            merge_range: merge.value,
         },
         rest,
     }

@@ -18,9 +18,9 @@ use Rattle.reader.specs.Reads.{Reads}
 use Rattle.pieces.specs.Piece.{lent}
 use Rattle.mesh.specs.Mesh as mesh
 
--- "width 2, limit 4, Miter, Butt"
+-- "width 2, limit 4, Miter, Butt"; its merge range is document 01's 1/128
 abbrev pub optionsOf : Options
-optionsOf = record { width = ofBits binary32 0x40000000; «miter_limit» = ofBits binary32 0x40800000; «line_join» = 0; cap = 0 }
+optionsOf = record { width = ofBits binary32 0x40000000; «miter_limit» = ofBits binary32 0x40800000; «line_join» = 0; cap = 0; «merge_range» = ofBits binary32 0x3c000000 }
 
 -- "room for 1,024 verbs, 2,048 coordinates, 1,024 vertices and 1,536 triangles": five floats to a vertex, three numbers to a triangle, all zero
 abbrev pub verbRoom : List ℕ

@@ -61,6 +61,7 @@ fn put_stroked(verbs: &[u8], coords: &[f32], out: &mut Page) -> usize
     put_mesh(out, &vertices, a.vertices, &triangles, a.triangles)
 }
 
+// The least merge range, 1/128, is 0.0078125.
 fn options() -> Options
     ensures { λ r. ⌜ r ≡ optionsOf ⌝ }
 {
@@ -69,5 +70,6 @@ fn options() -> Options
         miter_limit: 4.0,
         line_join: 0,
         cap: 0,
+        merge_range: 0.0078125,
     }
 }

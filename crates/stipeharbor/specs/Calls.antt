@@ -16,8 +16,8 @@ use Rattle.reader.specs.Outcome as reader
 use Rattle.reader.specs.Reads.{Reads}
 
 -- ---- stipeharbor_tessellate
-abbrev pub optionsOf : Float → Float → ℕ → ℕ → Options
-optionsOf width limit join cap = record { width = width; «miter_limit» = limit; «line_join» = join; cap = cap }
+abbrev pub optionsOf : Float → Float → ℕ → ℕ → Float → Options
+optionsOf width limit join cap merge = record { width = width; «miter_limit» = limit; «line_join» = join; cap = cap; «merge_range» = merge }
 
 pub record Tessellated : Type 0 where
   pub number : ℕ

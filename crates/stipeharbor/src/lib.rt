@@ -29,17 +29,19 @@ pub extern "C" fn stipeharbor_tessellate(
     miter_limit: f32,
     line_join: u32,
     line_cap: u32,
+    merge_range: f32,
     vertices: &mut [f32],
     triangles: &mut [Index],
     answer: &mut [usize],
 ) -> u32
-    ensures { λ r. ⌜ tessellated r (now (answer .exit)) (now (vertices .exit)) (now (triangles .exit)) ≡ tessellateOutOf (now (verbs .entry)) (now (coords .entry)) (optionsOf width «miter_limit» «line_join» «line_cap») (lent (now (vertices .entry)) (now (triangles .entry))) (now (answer .entry)) ⌝ }
+    ensures { λ r. ⌜ tessellated r (now (answer .exit)) (now (vertices .exit)) (now (triangles .exit)) ≡ tessellateOutOf (now (verbs .entry)) (now (coords .entry)) (optionsOf width «miter_limit» «line_join» «line_cap» «merge_range») (lent (now (vertices .entry)) (now (triangles .entry))) (now (answer .entry)) ⌝ }
 {
     let options = Options {
         width: width,
         miter_limit: miter_limit,
         line_join: line_join,
         cap: line_cap,
+        merge_range: merge_range,
     };
     let a = mesh_answer_of(tessellate(verbs, coords, options, vertices, triangles));
     put_numbers(answer, a.place, a.vertices, a.triangles);
