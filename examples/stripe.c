@@ -50,7 +50,7 @@ int main(void)
     uint32_t number = stipeharbor_read(text, length, verbs, VERB_ROOM, coords, COORD_ROOM, answer, 3);
     if (number == STIPEHARBOR_ACCEPTED)
         number = stipeharbor_tessellate(verbs, answer[1], coords, answer[2], 2.0f, 4.0f, STIPEHARBOR_MITER, STIPEHARBOR_BUTT,
-                                        vertices, VERTEX_ROOM, triangles, TRIANGLE_ROOM, answer, 3);
+                                        STIPEHARBOR_MERGE_RANGE_LEAST, vertices, VERTEX_ROOM, triangles, TRIANGLE_ROOM, answer, 3);
     if (number == STIPEHARBOR_ACCEPTED)
         print_mesh(answer[1], answer[2]);
     else

@@ -59,9 +59,13 @@ enum stipeharbor_number {
 #define STIPEHARBOR_WIDTH_MOST 16384.0f
 #define STIPEHARBOR_MITER_LIMIT_LEAST 1.0f
 #define STIPEHARBOR_MITER_LIMIT_MOST 1024.0f
+#define STIPEHARBOR_MERGE_RANGE_LEAST 0.0078125f
+#define STIPEHARBOR_MERGE_RANGE_MOST 1.0f
 
 /* Strokes a path: a mesh at the start of `vertices` (five floats each: x, y, the normal's x and y, the advancement) and of `triangles` (three vertex numbers
  * each). Elements behind it keep what they have. Room is the list's length over 5 or over 3, rounded down.
+ * A point whose squared distance to the last one kept is below `merge_range` squared, both in floats, is left out, and so are the last ones of a closed run that
+ * are so near its first. The least range leaves out what is too near to be drawn; plans traced by hand want more.
  * Refusals 1 to 7; one leaves `vertices` and `triangles` as they were. With both lengths 0 the counts can be asked for: 6 carries them, or 0 where they are 0.
  * `answer` gets the place (of 3, 4 and 5, else 0), the number of vertices and the number of triangles (of 0, 6 and 7, else 0). */
 uint32_t stipeharbor_tessellate(
@@ -71,6 +75,7 @@ uint32_t stipeharbor_tessellate(
     float miter_limit,
     uint32_t line_join,
     uint32_t line_cap,
+    float merge_range,
     float *vertices, size_t vertices_len,
     uint16_t *triangles, size_t triangles_len,
     size_t *answer, size_t answer_len);

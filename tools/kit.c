@@ -23,8 +23,8 @@ static void short_answers(void)
     static const size_t told[] = {0, 4, 2};
     for (size_t length = 0; length <= 5; length++) {
         size_t answer[5] = {UNTOUCHED, UNTOUCHED, UNTOUCHED, UNTOUCHED, UNTOUCHED};
-        uint32_t number = stipeharbor_tessellate(verbs, 3, coords, 4, 2.0f, 4.0f, STIPEHARBOR_MITER, STIPEHARBOR_BUTT, NULL, 0, NULL, 0,
-                                                 length ? answer : NULL, length);
+        uint32_t number = stipeharbor_tessellate(verbs, 3, coords, 4, 2.0f, 4.0f, STIPEHARBOR_MITER, STIPEHARBOR_BUTT, STIPEHARBOR_MERGE_RANGE_LEAST,
+                                                 NULL, 0, NULL, 0, length ? answer : NULL, length);
         expect(number == STIPEHARBOR_VERTEX_ROOM, "want of room is told whatever the answer's length");
         for (size_t i = 0; i < 5; i++)
             expect(answer[i] == (i < length && i < 3 ? told[i] : UNTOUCHED), "the answer goes as far as its list");
@@ -34,7 +34,8 @@ static void short_answers(void)
 static void nulls(void)
 {
     expect(stipeharbor_read(NULL, 0, NULL, 0, NULL, 0, NULL, 0) == STIPEHARBOR_ACCEPTED, "the empty text is a path");
-    expect(stipeharbor_tessellate(NULL, 0, NULL, 0, 2.0f, 4.0f, STIPEHARBOR_BEVEL, STIPEHARBOR_SQUARE, NULL, 0, NULL, 0, NULL, 0) == STIPEHARBOR_ACCEPTED,
+    expect(stipeharbor_tessellate(NULL, 0, NULL, 0, 2.0f, 4.0f, STIPEHARBOR_BEVEL, STIPEHARBOR_SQUARE, STIPEHARBOR_MERGE_RANGE_MOST, NULL, 0, NULL, 0, NULL, 0)
+               == STIPEHARBOR_ACCEPTED,
            "no verbs are a path");
     expect(stipeharbor_root(-1.0f, NULL, 0) == STIPEHARBOR_NO_ROOT, "a negative has no root");
     expect(stipeharbor_compute_normal(3.0f, 0.0f, 1.0f, 0.0f, NULL, 0) == STIPEHARBOR_COORDINATE, "a component above 2 is refused");

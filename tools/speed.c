@@ -1,5 +1,5 @@
 /* tools/speed.c: strokes one open run of POINTS points REPEAT times, for whoever counts instructions or time around it (docs/SPEED.md).
- * usage: speed gentle|sharp|right plenty|exact POINTS REPEAT; the empty loop is REPEAT 0. Edges are 5 long; Miter 4, Butt, width 2.
+ * usage: speed gentle|sharp|right plenty|exact POINTS REPEAT; the empty loop is REPEAT 0. Edges are 5 long; Miter 4, Butt, width 2, merge range 1/128.
  */
 #include "stipeharbor.h"
 #include <stdio.h>
@@ -31,7 +31,7 @@ static void fill(const char *kind, size_t n) {
 }
 
 static uint32_t stroke(size_t n, size_t vertex_floats, size_t triangle_numbers, size_t *answer) {
-    return stipeharbor_tessellate(verbs, n + 1, coords, 2 * n, 2, 4, STIPEHARBOR_MITER, STIPEHARBOR_BUTT, vertices, vertex_floats, triangles, triangle_numbers, answer, 3);
+    return stipeharbor_tessellate(verbs, n + 1, coords, 2 * n, 2, 4, STIPEHARBOR_MITER, STIPEHARBOR_BUTT, STIPEHARBOR_MERGE_RANGE_LEAST, vertices, vertex_floats, triangles, triangle_numbers, answer, 3);
 }
 
 int main(int argc, char **argv) {

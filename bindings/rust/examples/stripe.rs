@@ -5,13 +5,14 @@
 use std::fmt::Write as _;
 use std::io::{self, Read, Write};
 use std::process::ExitCode;
-use stipeharbor::{read, tessellate, Cap, Join, Options, Refusal, TEXT_LIMIT};
+use stipeharbor::{read, tessellate, Cap, Join, Options, Refusal, MERGE_RANGE_LEAST, TEXT_LIMIT};
 
 const OPTIONS: Options = Options {
     width: 2.0,
     miter_limit: 4.0,
     join: Join::Miter,
     cap: Cap::Butt,
+    merge_range: MERGE_RANGE_LEAST,
 };
 
 fn drawn(text: &[u8]) -> Result<String, Refusal> {

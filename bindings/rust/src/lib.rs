@@ -2,9 +2,15 @@
 //! [`Refusal`] comes out.
 //!
 //! ```
-//! use stipeharbor::{tessellate, Cap, Join, Options, BEGIN, END_OPEN, LINE};
+//! use stipeharbor::{tessellate, Cap, Join, Options, BEGIN, END_OPEN, LINE, MERGE_RANGE_LEAST};
 //!
-//! let options = Options { width: 2.0, miter_limit: 4.0, join: Join::Miter, cap: Cap::Butt };
+//! let options = Options {
+//!     width: 2.0,
+//!     miter_limit: 4.0,
+//!     join: Join::Miter,
+//!     cap: Cap::Butt,
+//!     merge_range: MERGE_RANGE_LEAST,
+//! };
 //! let (verbs, coordinates) = ([BEGIN, LINE, END_OPEN], [0.0, 1.0, 2.0, 1.0]);
 //! let (mut vertices, mut triangles) = ([0.0; 5 * 4], [0; 3 * 2]);
 //! let mesh = tessellate(&verbs, &coordinates, options, &mut vertices, &mut triangles)?;
@@ -37,6 +43,10 @@ pub const END_CLOSED: u8 = 3;
 pub const VERB_LIMIT: usize = 4096;
 /// The most bytes that a path text may have.
 pub const TEXT_LIMIT: usize = 16_384;
+/// The least merge range, 1/128: no point is left out but those too near to be drawn.
+pub const MERGE_RANGE_LEAST: f32 = 0.007_812_5;
+/// The greatest merge range.
+pub const MERGE_RANGE_MOST: f32 = 1.0;
 
 /// The shape of a corner.
 #[derive(Clone, Copy, Debug, PartialEq, Eq)]
@@ -69,6 +79,10 @@ pub struct Options {
     pub join: Join,
     /// The shape of both ends of an open run.
     pub cap: Cap,
+    /// A point whose squared distance to the last one kept is below this range squared is left
+    /// out, and so are the last ones of a closed run that are so near its first:
+    /// [`MERGE_RANGE_LEAST`] to [`MERGE_RANGE_MOST`].
+    pub merge_range: f32,
 }
 
 /// What [`tessellate`] wrote.
@@ -107,6 +121,7 @@ pub fn tessellate(
         options.miter_limit,
         options.join as u32,
         options.cap as u32,
+        options.merge_range,
         vertices,
         triangles,
         &mut answer,

@@ -2,12 +2,14 @@
 
 use stipeharbor::{compute_normal, read, root, tessellate};
 use stipeharbor::{Cap, Join, Mesh, Options, Path, Refusal, BEGIN, END_CLOSED, END_OPEN, LINE};
+use stipeharbor::{MERGE_RANGE_LEAST, MERGE_RANGE_MOST};
 
 const OPTIONS: Options = Options {
     width: 2.0,
     miter_limit: 4.0,
     join: Join::Miter,
     cap: Cap::Butt,
+    merge_range: MERGE_RANGE_LEAST,
 };
 const VERBS: [u8; 3] = [BEGIN, LINE, END_OPEN];
 const COORDINATES: [f32; 4] = [0.0, 1.0, 2.0, 1.0];
@@ -85,6 +87,20 @@ fn of_options() {
     assert_eq!(joined(Join::Miter), Ok((6, 4)));
     assert_eq!(joined(Join::MiterClip), Ok((6, 4)));
     assert_eq!(joined(Join::Bevel), Ok((7, 5)));
+    // The closing end merges by the range, too.
+    let traced = [0.0, 0.0, 10.0, 0.0, 10.0, 10.0, 0.9, 0.0, 0.0, 0.9];
+    let merged = |merge_range| {
+        let verbs = [BEGIN, LINE, LINE, LINE, LINE, END_CLOSED];
+        let options = Options {
+            merge_range,
+            ..OPTIONS
+        };
+        let answer = tessellate(&verbs, &traced, options, &mut [0.0; 50], &mut [0; 30]);
+        answer.map(|m| (m.vertices, m.triangles))
+    };
+    assert_eq!(merged(MERGE_RANGE_LEAST), Ok((10, 10)));
+    assert_eq!(merged(MERGE_RANGE_MOST), Ok((6, 6)));
+    assert_eq!(merged(MERGE_RANGE_LEAST / 2.0), Err(Refusal::OutOfRange));
 }
 
 #[test]
