@@ -7,7 +7,7 @@ use Rattle.plane.specs.Vector.{minusOf, squareLengthOf}
 use Rattle.plane.specs.declared.vector.Point.{Point}
 use Rattle.endpoint.specs.declared.Endpoint.{Endpoint}
 
--- b is near a: the limit is "2^-14"
+-- b is near a; of the limit, which was 2^-14, W-201 has "that range squared in f32"
 unfoldable pub nearOf : Float → Point → Point → Bool
 nearOf limit a b = lt (squareLengthOf (minusOf b a)) limit
 

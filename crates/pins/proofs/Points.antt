@@ -1,4 +1,4 @@
--- Document 01's points, P1 to P10, and a few beside them, computed by the checker over the definitions: one statement over one list. Assumes nothing.
+-- Document 01's points, P1 to P10, and a few beside them, W-201's among them, computed by the checker over the definitions: one statement over one list. Assumes nothing.
 use Prim.Native.Nat.{ℕ, _*_}
 use mathlib.Core.Path.{_≡_, refl}
 use mathlib.Core.Bool.{Bool, true, false, _&&_}
@@ -24,7 +24,7 @@ use Rattle.vertices.specs.Base.{baseVertexOf, sideVerticesOf}
 use Rattle.vertices.specs.Cap.{capVertexOf, capPairOf, capVerticesOf}
 use Rattle.vertices.specs.Vertex.{vertexOf, triangleOf}
 use Rattle.path.specs.Coordinates.{coordinateIn, firstOutside}
-use Rattle.options.specs.Options.{within, lineJoinOf, inRange, preparedOf, strokeOf, lineCapOf, nearSquare}
+use Rattle.options.specs.Options.{within, lineJoinOf, inRange, preparedOf, strokeOf, lineCapOf}
 use Rattle.path.specs.Path.{malformed, checkedOf}
 use Rattle.path.specs.Runs.{runsFrom}
 use Rattle.path.specs.Verbs.{begin, line, endOpen, endClosed, names, placed, firstMisplaced, endsInside, named, pointCount}
@@ -43,19 +43,21 @@ use Rattle.mesh.specs.Mesh.{Outcome, acceptedOf, strokedOf, outcomeOf}
 use Rattle.lists.specs.Over.{over, flat}
 use Rattle.options.specs.declared.Options.{Options}
 
--- the patterns of width and miter limit, join and cap
+-- join and cap, and the pattern of the merge range
 pub record Pen : Type 0 where
-  pub width : ℕ
-  pub limit : ℕ
   pub join : ℕ
   pub cap : ℕ
+  pub merge : ℕ
+
+abbrev pen : ℕ → ℕ → Pen
+pen join cap = record { join = join; cap = cap; merge = 0x3c000000 }
+
+abbrev merging : ℕ → Pen
+merging merge = record { join = 0; cap = 0; merge = merge }
 
 -- width 2 and limit 4
-abbrev pen : ℕ → ℕ → Pen
-pen join cap = record { width = 0x40000000; limit = 0x40800000; join = join; cap = cap }
-
 abbrev optionsOf : Pen → Options
-optionsOf p = record { width = f32 (p .width); «miter_limit» = f32 (p .limit); «line_join» = p .join; cap = p .cap }
+optionsOf p = record { width = f32 0x40000000; «miter_limit» = f32 0x40800000; «line_join» = p .join; cap = p .cap; «merge_range» = f32 (p .merge) }
 
 -- the endpoint k, otherwise blank, for the window's cases
 abbrev numbered : ℕ → EndpointData
@@ -85,8 +87,8 @@ after xs (replaceLast k ∷ cs) = after (lastReplaced xs (numbered k)) cs
 pub data Case : Type 0 where
   -- verbs and the patterns of the coordinates; how many vertices and triangles there is room for; then the number, the place and both counts
   mesh : Pen → List ℕ → List ℕ → ℕ → ℕ → ℕ → ℕ → ℕ → ℕ → Case
-  -- the patterns of an open run's coordinates, and how many of its points are kept
-  keeps : List ℕ → ℕ → Case
+  -- the patterns of the merge range and of an open run's coordinates, and how many of its points are kept
+  keeps : ℕ → List ℕ → ℕ → Case
   -- calls on a new window, and the endpoints that it then reads at 0, 1 and 2
   window : List Call → ℕ → ℕ → ℕ → Case
   -- a pattern, and the number and the pattern of its root
@@ -101,7 +103,7 @@ says : Case → Bool
 says (mesh p vs cs nv nt number place n m) =
     let a = outcomeOf vs (map f32 cs) (optionsOf p) (lent (replicate (5 * nv) (f32 0)) (replicate (3 * nt) 0)) .answer in
     eqb (a .number) number && eqb (a .place) place && (eqb (a .vertices) n && eqb (a .triangles) m)
-says (keeps cs n) = eqb (length (keptPoints nearSquare false (endpointsOf 0 (map f32 cs)))) n
+says (keeps r cs n) = eqb (length (keptPoints (preparedOf (optionsOf (merging r)) .near) false (endpointsOf 0 (map f32 cs)))) n
 says (window cs a b c) = let xs = after [] cs in reads xs 0 a && (reads xs 1 b && reads xs 2 c)
 says (root x number r) = let a = rootAnswer (f32 x) in eqb (a .number) number && eqb (toBits binary32 (a .value)) r
 says (normal x1 y1 x2 y2 number x y) =
@@ -111,6 +113,12 @@ says (normal x1 y1 x2 y2 number x y) =
 pub every : List Case → Bool
 every [] = true
 every (c ∷ cs) = says c && every cs
+
+abbrev ring : List ℕ
+ring = begin ∷ line ∷ line ∷ line ∷ line ∷ endClosed ∷ []
+
+abbrev traced : List ℕ
+traced = 0 ∷ 0 ∷ 0x41200000 ∷ 0 ∷ 0x41200000 ∷ 0x41200000 ∷ 0x3f666666 ∷ 0 ∷ 0 ∷ 0x3f666666 ∷ []
 
 pub cases : List Case
 cases =
@@ -135,7 +143,7 @@ cases =
     ∷ mesh (pen 0 0) (begin ∷ line ∷ endOpen ∷ []) (0 ∷ 0x3f800000 ∷ 0x40000000 ∷ 0x3f800000 ∷ []) 3 2 6 0 4 2
     ∷ mesh (pen 0 0) (begin ∷ line ∷ endOpen ∷ []) (0 ∷ 0x3f800000 ∷ 0x40000000 ∷ 0x3f800000 ∷ []) 4 1 7 0 4 2
     -- P10: (0,0), (1/128,0): two points kept; (0,0), (1/256,0): one; and what is drawn then
-    ∷ keeps (0 ∷ 0 ∷ 0x3c000000 ∷ 0 ∷ []) 2 ∷ keeps (0 ∷ 0 ∷ 0x3b800000 ∷ 0 ∷ []) 1
+    ∷ keeps 0x3c000000 (0 ∷ 0 ∷ 0x3c000000 ∷ 0 ∷ []) 2 ∷ keeps 0x3c000000 (0 ∷ 0 ∷ 0x3b800000 ∷ 0 ∷ []) 1
     ∷ mesh (pen 0 0) (begin ∷ line ∷ endOpen ∷ []) (0 ∷ 0 ∷ 0x3c000000 ∷ 0 ∷ []) 4 2 0 0 4 2
     ∷ mesh (pen 0 0) (begin ∷ line ∷ endOpen ∷ []) (0 ∷ 0 ∷ 0x3b800000 ∷ 0 ∷ []) 0 0 0 0 0 0
     -- an option, the verbs and a coordinate all wrong: 1; too many verbs: 2; the coordinate: 4
@@ -145,7 +153,13 @@ cases =
     ∷ mesh (pen 0 0) (begin ∷ line ∷ line ∷ endOpen ∷ []) (0 ∷ 0 ∷ 0x42c80000 ∷ 0 ∷ 0x42c80000 ∷ 0x42c80000 ∷ []) 6 4 0 0 6 4
     ∷ mesh (pen 2 0) (begin ∷ line ∷ line ∷ endOpen ∷ []) (0 ∷ 0 ∷ 0x42c80000 ∷ 0 ∷ 0x42c80000 ∷ 0x42c80000 ∷ []) 7 5 0 0 7 5
     ∷ mesh (pen 2 0) (begin ∷ line ∷ endClosed ∷ []) (0 ∷ 0 ∷ 0x42c80000 ∷ 0 ∷ []) 8 8 0 0 8 8
-    ∷ mesh (pen 0 0) (begin ∷ line ∷ endClosed ∷ []) (0 ∷ 0 ∷ 0x42c80000 ∷ 0 ∷ []) 4 4 0 0 4 4 ∷ []
+    ∷ mesh (pen 0 0) (begin ∷ line ∷ endClosed ∷ []) (0 ∷ 0 ∷ 0x42c80000 ∷ 0 ∷ []) 4 4 0 0 4 4
+    -- W-201: range 0.15, (0,0), (0.12,0.09): two points kept; range 0.5, (0,0), (0.6,0): two; (0,0), (0.4,0): one
+    ∷ keeps 0x3e19999a (0 ∷ 0 ∷ 0x3df5c28f ∷ 0x3db851ec ∷ []) 2 ∷ keeps 0x3f000000 (0 ∷ 0 ∷ 0x3f19999a ∷ 0 ∷ []) 2 ∷ keeps 0x3f000000 (0 ∷ 0 ∷ 0x3ecccccd ∷ 0 ∷ []) 1
+    -- W-201: (0,0), (10,0), (10,10), (0.9,0), (0,0.9), closed: 6 and 6 at range 1, 10 and 10 at 1/128
+    ∷ mesh (merging 0x3f800000) ring traced 6 6 0 0 6 6 ∷ mesh (merging 0x3c000000) ring traced 10 10 0 0 10 10
+    -- W-201: the f32 before 1/128, the f32 after 1, a NaN: 1
+    ∷ mesh (merging 0x3bffffff) [] [] 0 0 1 0 0 0 ∷ mesh (merging 0x3f800001) [] [] 0 0 1 0 0 0 ∷ mesh (merging 0x7fc00000) [] [] 0 0 1 0 0 0 ∷ []
 
 -- what the checker opens to compute them
 arithmetic : Unit {0}
