@@ -1,4 +1,4 @@
--- `mesh_case::answer` is safe: what is read is no longer than the rooms. Assumes nothing.
+-- `case_mesh::answer` is safe: what is read is no longer than the rooms. Assumes nothing.
 use borrow.Author.Needs.{needs}
 use mathlib.Core.Path.{sym}
 use lib.Seq.{length-take-le}

@@ -1,4 +1,4 @@
--- `read_case::answer` is safe: what is read is no longer than the room. Assumes nothing.
+-- `case_read::answer` is safe: what is read is no longer than the room. Assumes nothing.
 use borrow.Author.Needs.{needs}
 use mathlib.Core.Path.{sym}
 use lib.Seq.{length-take-le}

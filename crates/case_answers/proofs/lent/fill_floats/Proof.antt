@@ -1,4 +1,4 @@
--- `answers::lent::fill_floats` is safe and ends. The measure is the number of places that are left. Assumes nothing.
+-- `case_answers::lent::fill_floats` is safe and ends. The measure is the number of places that are left. Assumes nothing.
 use Prim.Native.Nat.{_-_}
 use mathlib.Core.Path.{_≡_, refl}
 use native.Mathlib.Omega.{arith}

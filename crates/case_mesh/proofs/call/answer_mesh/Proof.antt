@@ -1,4 +1,4 @@
--- `mesh_case::call::answer_mesh` is safe: the lists that are asked for are no longer than the rooms. Assumes nothing.
+-- `case_mesh::call::answer_mesh` is safe: the lists that are asked for are no longer than the rooms. Assumes nothing.
 use borrow.Author.Needs.{needs}
 use Prim.Native.Nat.{ℕ, _≤_}
 use mathlib.Core.Path.{sym, subst}

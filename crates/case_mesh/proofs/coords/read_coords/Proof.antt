@@ -1,4 +1,4 @@
--- `mesh_case::coords::read_coords` meets its contract: a count that is read is no larger than the lent list. Assumes nothing.
+-- `case_mesh::coords::read_coords` meets its contract: a count that is read is no larger than the lent list. Assumes nothing.
 use borrow.Author.Needs.{needs}
 use mathlib.Core.Path.{sym}
 use lib.Seq.{length-take-le}

@@ -1,4 +1,4 @@
--- `mesh_case::coords::read_floats` is safe and ends. The measure is the number of places that are left. Assumes nothing.
+-- `case_mesh::coords::read_floats` is safe and ends. The measure is the number of places that are left. Assumes nothing.
 use Prim.Native.Nat.{_-_}
 use mathlib.Core.Path.{_≡_, refl}
 use native.Mathlib.Omega.{arith}

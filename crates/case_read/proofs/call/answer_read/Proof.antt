@@ -1,4 +1,4 @@
--- `read_case::call::answer_read` is safe: the lists that are asked for are no longer than the rooms. Assumes nothing.
+-- `case_read::call::answer_read` is safe: the lists that are asked for are no longer than the rooms. Assumes nothing.
 use borrow.Author.Needs.{needs}
 use Prim.Native.Nat.{ℕ, _≤_}
 use mathlib.Core.Path.{sym, subst}

@@ -1,4 +1,4 @@
--- `window_case::calls::answer_ops` is safe and ends. The measure is the number of calls that are left. Assumes nothing.
+-- `case_window::calls::answer_ops` is safe and ends. The measure is the number of calls that are left. Assumes nothing.
 use Prim.Native.Nat.{_-_}
 use native.Mathlib.Omega.{arith}
 use Rattle.case_window.proofs.calls.answer_ops.Statement.{statement}
