@@ -1,15 +1,15 @@
 //! One answer to each line, over either implementation of the routines.
 
-use crate::case::{Case, JoinCase, MeshCase, Op, ReadCase};
+use crate::case::{Case, JoinCase, MeshCase, Op, ReadCase, StlReadCase, StlWriteCase};
 use crate::endpoint::{Endpoint, EndpointId, LineJoin, Points, NEGATIVE, POSITIVE};
 use crate::line::{filled_floats, filled_numbers, float_word, Line};
-use crate::outcome::Outcome;
+use crate::outcome::{Outcome, Refusal};
 use crate::path::Path;
 use crate::plane::{point, vector};
 use crate::routines::Routines;
 use crate::vertices::Mesh;
 use crate::window::Window;
-use crate::{mesh, normal, reader, root};
+use crate::{mesh, normal, reader, root, stl};
 
 /// The answer to a line, without line feeds on either.
 pub fn answer<R: Routines>(line: &[u8]) -> String {
@@ -28,6 +28,8 @@ pub fn answer_case<R: Routines>(case: &Case) -> String {
         Case::Window(ops) => answer_window::<R>(ops),
         Case::Join(case) => answer_join::<R>(case),
         Case::Cap(floats) => answer_cap::<R>(*floats),
+        Case::StlWrite(case) => answer_stl_write(case),
+        Case::StlRead(case) => answer_stl_read(case),
     }
 }
 
@@ -163,4 +165,28 @@ fn answer_cap<R: Routines>([x, y, half_width, advancement]: [f32; 4]) -> String 
         .floats(&mesh.vertices.concat())
         .numbers(&mesh.triangles.concat())
         .done()
+}
+
+fn answer_stl_write(case: &StlWriteCase) -> String {
+    let mut bytes = filled_numbers(case.byte_len);
+    let answer = stl::write(&case.vertices, &case.triangles, &mut bytes);
+    counted("stlwrite", answer).bytes(&bytes).done()
+}
+
+fn answer_stl_read(case: &StlReadCase) -> String {
+    let mut corners = filled_floats(case.corner_len);
+    let answer = stl::read(&case.bytes, &mut corners);
+    counted("stlread", answer).floats(&corners).done()
+}
+
+/// One count, which a refusal does not carry.
+fn counted(kind: &str, answer: Result<usize, Refusal>) -> Line {
+    let (number, place, count) = match answer {
+        Ok(count) => (0, 0, count),
+        Err(refusal) => (refusal.number, refusal.place, 0),
+    };
+    Line::new(kind)
+        .number(number as usize)
+        .number(place)
+        .number(count)
 }

@@ -8,6 +8,7 @@ pub const MAX_VERTEX_LIST: usize = 81_920;
 pub const MAX_TRIANGLE_LIST: usize = 49_152;
 pub const MAX_VERB_LIST: usize = 4_200;
 pub const MAX_COORDINATE_LIST: usize = 8_400;
+pub const MAX_FILE: usize = 131_072;
 const MAX_ENDPOINT: usize = 9_999;
 const MAX_GET: usize = 9;
 
@@ -20,6 +21,8 @@ pub enum Case {
     Window(Vec<Op>),
     Join(JoinCase),
     Cap([f32; 4]),
+    StlWrite(StlWriteCase),
+    StlRead(StlReadCase),
 }
 
 #[derive(Clone, Debug, PartialEq)]
@@ -36,6 +39,19 @@ pub struct ReadCase {
     pub verb_len: usize,
     pub coordinate_len: usize,
     pub text: Vec<u8>,
+}
+
+#[derive(Clone, Debug, PartialEq)]
+pub struct StlWriteCase {
+    pub byte_len: usize,
+    pub vertices: Vec<f32>,
+    pub triangles: Vec<u16>,
+}
+
+#[derive(Clone, Debug, PartialEq)]
+pub struct StlReadCase {
+    pub corner_len: usize,
+    pub bytes: Vec<u8>,
 }
 
 #[derive(Clone, Copy, Debug, PartialEq, Eq)]
@@ -73,6 +89,8 @@ impl Case {
             b"window" => Case::Window(words.list(|words| op(words.word()?))?),
             b"join" => Case::Join(join(&mut words)?),
             b"cap" => Case::Cap(words.some_floats()?),
+            b"stlwrite" => Case::StlWrite(stl_write(&mut words)?),
+            b"stlread" => Case::StlRead(stl_read(&mut words)?),
             _ => return None,
         };
         words.end()?;
@@ -97,6 +115,15 @@ impl Case {
                 .done(),
             Case::Join(case) => join_line(case),
             Case::Cap(floats) => Line::new("cap").some_floats(floats).done(),
+            Case::StlWrite(case) => Line::new("stlwrite")
+                .number(case.byte_len)
+                .floats(&case.vertices)
+                .numbers(&case.triangles)
+                .done(),
+            Case::StlRead(case) => Line::new("stlread")
+                .number(case.corner_len)
+                .bytes(&case.bytes)
+                .done(),
         }
     }
 }
@@ -136,6 +163,21 @@ fn read(words: &mut Words) -> Option<ReadCase> {
         verb_len: words.number(MAX_VERB_LIST)?,
         coordinate_len: words.number(MAX_COORDINATE_LIST)?,
         text: words.bytes()?,
+    })
+}
+
+fn stl_write(words: &mut Words) -> Option<StlWriteCase> {
+    Some(StlWriteCase {
+        byte_len: words.number(MAX_FILE)?,
+        vertices: words.list(Words::float)?,
+        triangles: words.list(|words| words.number(usize::from(u16::MAX)).map(|n| n as u16))?,
+    })
+}
+
+fn stl_read(words: &mut Words) -> Option<StlReadCase> {
+    Some(StlReadCase {
+        corner_len: words.number(MAX_VERTEX_LIST)?,
+        bytes: words.bytes()?,
     })
 }
 

@@ -3,7 +3,7 @@
 //!
 //! From the leaves up: `plane`, `root`, `normal`, `endpoint`, `window`, `edge`, `join`,
 //! `vertices` (the reading of the routines), `routines` (what the driver asks of them), `path`,
-//! `strip`, `mesh` (the driver), `reader`, `program`. `shim` and `text` hold the cut text.
+//! `strip`, `mesh` (the driver), `reader`, `program`, `stl`. `shim` and `text` hold the cut text.
 //! `line`, `case`, `answer` are the cases and answers, `gen` makes cases.
 
 pub mod answer;
@@ -24,6 +24,7 @@ pub mod root;
 pub mod routines;
 #[cfg(lyon_text)]
 pub mod shim;
+pub mod stl;
 pub mod strip;
 #[cfg(lyon_text)]
 pub mod text;

@@ -8,9 +8,11 @@ mod paths;
 mod rng;
 mod shapes;
 mod small;
+mod stl;
 mod texts;
 
 pub use rng::Rng;
+pub use stl::{damaged, sound};
 
 use crate::case::Case;
 
@@ -23,6 +25,8 @@ pub enum Kind {
     Window,
     Join,
     Cap,
+    StlWrite,
+    StlRead,
     Bad,
     All,
 }
@@ -37,6 +41,8 @@ impl Kind {
             "window" => Some(Kind::Window),
             "join" => Some(Kind::Join),
             "cap" => Some(Kind::Cap),
+            "stlwrite" => Some(Kind::StlWrite),
+            "stlread" => Some(Kind::StlRead),
             "bad" => Some(Kind::Bad),
             "all" => Some(Kind::All),
             _ => None,
@@ -63,6 +69,8 @@ pub fn case(rng: &mut Rng, kind: Kind) -> Case {
         Kind::Window => Case::Window(small::window(rng)),
         Kind::Join => Case::Join(joins::join(rng)),
         Kind::Cap => Case::Cap(small::cap(rng)),
+        Kind::StlWrite => Case::StlWrite(stl::write(rng)),
+        Kind::StlRead => Case::StlRead(stl::read(rng)),
         Kind::Bad | Kind::All => {
             let kind = rng.pick(&[
                 Kind::Mesh,
@@ -74,6 +82,8 @@ pub fn case(rng: &mut Rng, kind: Kind) -> Case {
                 Kind::Window,
                 Kind::Join,
                 Kind::Cap,
+                Kind::StlWrite,
+                Kind::StlRead,
             ]);
             case(rng, kind)
         }

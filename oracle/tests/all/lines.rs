@@ -7,7 +7,7 @@ use oracle::line::{filled_floats, filled_numbers};
 use std::io::Write;
 use std::process::{Command, Stdio};
 
-const KINDS: [Kind; 7] = [
+const KINDS: [Kind; 9] = [
     Kind::Mesh,
     Kind::Read,
     Kind::Root,
@@ -15,6 +15,8 @@ const KINDS: [Kind; 7] = [
     Kind::Window,
     Kind::Join,
     Kind::Cap,
+    Kind::StlWrite,
+    Kind::StlRead,
 ];
 
 #[test]

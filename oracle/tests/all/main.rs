@@ -13,3 +13,4 @@ mod reader;
 mod refusals;
 mod root;
 mod rules;
+mod stl;
