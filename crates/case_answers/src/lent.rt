@@ -1,4 +1,4 @@
-// Lists that a case lends to a call: filled before it, so that a place which it leaves alone shows. None is longer than 81,920.
+// Lists that a case lends to a call: filled before it, so that a place which it leaves alone shows. None is longer than 81,920, a file's bytes aside.
 use std::num::nearest_u32_to_f32;
 ghost use Prim.Native.Nat.{_≤_};
 ghost use lib.ListN.{length};
@@ -25,9 +25,9 @@ pub fn fill_numbers(list: &mut [u16])
     }
 }
 
-// Bytes are filled as numbers are.
+// Bytes are filled as numbers are; an STL file has up to 131,072.
 pub fn fill_bytes(list: &mut [u8])
-    requires { ⌜ length (now list) ≤ 81920 ⌝ }
+    requires { ⌜ length (now list) ≤ 131072 ⌝ }
 {
     let mut i = 0;
     while i < list.len() {

@@ -1,12 +1,11 @@
 // The answer to `mesh WIDTH LIMIT JOIN CAP MERGE VERTEXLEN TRIANGLELEN VERBS COORDS`: `mesh NUMBER PLACE VERTICES TRIANGLES VERTEXLIST
 // TRIANGLELIST`.
 mod call;
-mod coords;
 mod front;
 
 use crate::call::answer_mesh;
-use crate::coords::read_coords;
 use crate::front::read_front;
+use case_answers::float_lists::read_float_list;
 use lines::byte_lists::read;
 use lines::words::Place;
 use lines::words::is_end;
@@ -28,7 +27,7 @@ pub fn answer(line: &[u8], place: Place, out: &mut Buffer, p: Printed) -> Printe
     let after_front = front.rest;
     let v = read(line, after_front, &mut verbs);
     let after_verbs = v.rest;
-    let c = read_coords(line, after_verbs, &mut coords);
+    let c = read_float_list(line, after_verbs, &mut coords);
     let rest = c.rest;
     if !is_end(rest) {
         return bad_line(out, p);

@@ -14,11 +14,11 @@ slice-aggregate-read c = search needs
 read-requires : tie.Need-read-requires
 read-requires c κs = search needs
 
-slice-aggregate-read-coords : tie.Need-slice-aggregate-read-coords
-slice-aggregate-read-coords c = search needs
+slice-aggregate-read-float-list : tie.Need-slice-aggregate-read-float-list
+slice-aggregate-read-float-list c = search needs
 
-read-coords-requires : tie.Need-read-coords-requires
-read-coords-requires c κs = search needs
+read-float-list-requires : tie.Need-read-float-list-requires
+read-float-list-requires c κs = search needs
 
 is-end-requires : tie.Need-is-end-requires
 is-end-requires c κs = search needs
@@ -33,13 +33,17 @@ array-share-prefix-verbs : tie.Need-array-share-prefix-verbs
 array-share-prefix-verbs c = rw (c .before .before .before .before .before .before .before .read .kept .1 .1 .0) (c .before .before .before .before .before .before .before .read .ensures .1 .0)
 
 slice-aggregate-answer-mesh : tie.Need-slice-aggregate-answer-mesh
-slice-aggregate-answer-mesh c = sym (length-take-le (c .before .before .before .before .before .before .before .before .read .result .count) (c .before .before .before .before .before .before .before .before .read .last .1 .1 .0) (array-share-prefix-verbs (c .before)))
+slice-aggregate-answer-mesh c =
+    sym
+    (length-take-le (c .before .before .before .before .before .before .before .before .read .result .count) (c .before .before .before .before .before .before .before .before .read .last .1 .1 .0) (array-share-prefix-verbs (c .before)))
 
 array-share-prefix-coords : tie.Need-array-share-prefix-coords
-array-share-prefix-coords c = rw (c .before .before .before .before .before .read-coords .kept .1 .1 .0) (c .before .before .before .before .before .read-coords .ensures)
+array-share-prefix-coords c = rw (c .before .before .before .before .before .read-float-list .kept .1 .1 .0) (c .before .before .before .before .before .read-float-list .ensures)
 
 slice-aggregate-answer-mesh-2 : tie.Need-slice-aggregate-answer-mesh-2
-slice-aggregate-answer-mesh-2 c = sym (length-take-le (c .before .before .before .before .before .before .read-coords .result .count) (c .before .before .before .before .before .before .read-coords .last .1 .1 .0) (array-share-prefix-coords (c .before)))
+slice-aggregate-answer-mesh-2 c =
+    sym
+    (length-take-le (c .before .before .before .before .before .before .read-float-list .result .count) (c .before .before .before .before .before .before .read-float-list .last .1 .1 .0) (array-share-prefix-coords (c .before)))
 
 answer-mesh-requires : tie.Need-answer-mesh-requires
 answer-mesh-requires c κs = search needs
@@ -54,8 +58,8 @@ answer-spec =
     read-front-requires
     slice-aggregate-read
     read-requires
-    slice-aggregate-read-coords
-    read-coords-requires
+    slice-aggregate-read-float-list
+    read-float-list-requires
     is-end-requires
     bad-line-requires
     returns

@@ -1,10 +1,10 @@
--- `case_mesh::coords::read_floats` is safe and ends. The measure is the number of places that are left. Assumes nothing.
+-- `case_answers::float_lists::read_floats` is safe and ends. The measure is the number of places that are left. Assumes nothing.
 use Prim.Native.Nat.{_-_}
 use mathlib.Core.Path.{_≡_, refl}
 use native.Mathlib.Omega.{arith}
 use lib.ListN.{length, length-set}
-use Rattle.case_mesh.proofs.coords.read_floats.Statement.{statement}
-use Rattle.case_mesh.proofs.coords.read_floats.Tie as tie
+use Rattle.case_answers.proofs.float_lists.read_floats.Statement.{statement}
+use Rattle.case_answers.proofs.float_lists.read_floats.Tie as tie
 
 abbrev Inv-loop : tie.InvT-loop
 Inv-loop line list₀ at₀ i₀ list at i = length list ≡ length list₀

@@ -6,20 +6,20 @@ ghost use Prim.Native.Nat.{_≤_};
 ghost use lib.ListN.{length};
 
 // How many floats stood in a line, and the place after them: Lost where they were out of form or too many.
-pub struct CoordsRead {
+pub struct FloatsRead {
     pub count: usize,
     pub rest: Place,
 }
 
 // The list at a place of a line, put over the start of the lent list.
-pub fn read_coords(line: &[u8], place: Place, list: &mut [f32]) -> CoordsRead
+pub fn read_float_list(line: &[u8], place: Place, list: &mut [f32]) -> FloatsRead
     ensures { λ r. ⌜ r .count ≤ length (now (list .entry)) ⌝ }
 {
     let n = read_up_to(line, place, list.len() as u64);
     let first = n.rest;
     let count = n.value as usize;
     let rest = read_floats(line, first, &mut list[..count]);
-    CoordsRead { count, rest }
+    FloatsRead { count, rest }
 }
 
 // As many floats as the lent list is long.

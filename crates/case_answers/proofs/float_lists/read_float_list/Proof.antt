@@ -1,9 +1,9 @@
--- `case_mesh::coords::read_coords` meets its contract: a count that is read is no larger than the lent list. Assumes nothing.
+-- `case_answers::float_lists::read_float_list` meets its contract: a count that is read is no larger than the lent list. Assumes nothing.
 use borrow.Author.Needs.{needs}
 use mathlib.Core.Path.{sym}
 use lib.Seq.{length-take-le}
-use Rattle.case_mesh.proofs.coords.read_coords.Statement.{statement}
-use Rattle.case_mesh.proofs.coords.read_coords.Tie as tie
+use Rattle.case_answers.proofs.float_lists.read_float_list.Statement.{statement}
+use Rattle.case_answers.proofs.float_lists.read_float_list.Tie as tie
 
 read-up-to-requires : tie.Need-read-up-to-requires
 read-up-to-requires c κs = search needs
@@ -23,8 +23,8 @@ same-length c = search needs
 returns : tie.Need-returns
 returns c = search needs
 
-pub read-coords-spec : {M : Type 1} → statement M
-read-coords-spec =
+pub read-float-list-spec : {M : Type 1} → statement M
+read-float-list-spec =
     tie.close
     (tie.spec
     read-up-to-requires
