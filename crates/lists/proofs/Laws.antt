@@ -31,7 +31,7 @@ module _ {A : Type 0} where
   over-next (u ∷ vs) v [] h = refl
   over-next (u ∷ vs) v (x ∷ xs) h = ap (λ (l : List A). u ∷ l) (over-next vs v xs (omega arith))
 
-  -- what a writer of one, two, three or five elements leaves
+  -- what a writer of one to six elements leaves
   pub over-one : (a : A) (xs : List A) → 1 ≤ length xs → set xs 0 a ≡ over (a ∷ []) xs
   unfolding over
   over-one a xs h = over-next [] a xs h
@@ -42,8 +42,14 @@ module _ {A : Type 0} where
   pub over-three : (a b c : A) (xs : List A) → 3 ≤ length xs → set (set (set xs 0 a) 1 b) 2 c ≡ over (a ∷ b ∷ c ∷ []) xs
   over-three a b c xs h = rw (over-two a b xs (omega arith), over-next (a ∷ b ∷ []) c xs h)
 
+  pub over-four : (a b c d : A) (xs : List A) → 4 ≤ length xs → set (set (set (set xs 0 a) 1 b) 2 c) 3 d ≡ over (a ∷ b ∷ c ∷ d ∷ []) xs
+  over-four a b c d xs h = rw (over-three a b c xs (omega arith), over-next (a ∷ b ∷ c ∷ []) d xs h)
+
   pub over-five : (a b c d e : A) (xs : List A) → 5 ≤ length xs → set (set (set (set (set xs 0 a) 1 b) 2 c) 3 d) 4 e ≡ over (a ∷ b ∷ c ∷ d ∷ e ∷ []) xs
-  over-five a b c d e xs h = rw (over-three a b c xs (omega arith), over-next (a ∷ b ∷ c ∷ []) d xs (omega arith), over-next (a ∷ b ∷ c ∷ d ∷ []) e xs h)
+  over-five a b c d e xs h = rw (over-four a b c d xs (omega arith), over-next (a ∷ b ∷ c ∷ d ∷ []) e xs h)
+
+  pub over-six : (a b c d e f : A) (xs : List A) → 6 ≤ length xs → set (set (set (set (set (set xs 0 a) 1 b) 2 c) 3 d) 4 e) 5 f ≡ over (a ∷ b ∷ c ∷ d ∷ e ∷ f ∷ []) xs
+  over-six a b c d e f xs h = rw (over-five a b c d e xs (omega arith), over-next (a ∷ b ∷ c ∷ d ∷ e ∷ []) f xs h)
 
   -- two lists one behind the other
   pub over-append : (vs ws xs : List A) → length vs ≤ length xs → over (vs ++ ws) xs ≡ take (length vs) (over vs xs) ++ over ws (drop (length vs) (over vs xs))

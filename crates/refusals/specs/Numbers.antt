@@ -1,4 +1,4 @@
--- Document 01's "What each number means": the one place where the numbers stand. Assumes nothing.
+-- "What each number means" of document 01, and the numbers that document 02 adds: the one place where the numbers stand. Assumes nothing.
 use Prim.Native.Nat.{ℕ}
 use Rattle.refusals.specs.declared.Refusal.{Refusal}
 use Rattle.refusals.specs.declared.Refusal.the-variants.{OutOfRange, TooManyVerbs, Verb, Coordinate}
@@ -33,6 +33,14 @@ pub data Meaning : Type 0 where
   windowRefused : Meaning
   -- "root of a negative, -0, infinite or NaN"
   noRoot : Meaning
+  -- W-202: "byte list too short to write"
+  fileRoom : Meaning
+  -- "length below 84 or not 84 plus 50 times the count"
+  fileLength : Meaning
+  -- "a corner that is not finite, a z that isn't zero or, in writing, a triangle number that has no vertex"
+  badCorner : Meaning
+  -- "too little room to read"
+  cornerRoom : Meaning
 
 abbrev pub numberOf : Meaning → ℕ
 numberOf accepted = 0
@@ -49,6 +57,10 @@ numberOf largeNumber = 10
 numberOf readerRoom = 11
 numberOf windowRefused = 12
 numberOf noRoot = 13
+numberOf fileRoom = 14
+numberOf fileLength = 15
+numberOf badCorner = 16
+numberOf cornerRoom = 17
 
 -- a row of the table, with its place
 abbrev pub verdict : Meaning → ℕ → Verdict

@@ -1,4 +1,4 @@
-// What every answer's number means, document 01's table: the numbers by name, and the refusals that several calls give.
+// What every answer's number means, document 01's table and what document 02 adds: the numbers by name, and the refusals that several calls give.
 ghost use mathlib.Core.Path.{_≡_};
 ghost use Rattle.refusals.specs.Numbers.{verdictOf};
 
@@ -29,6 +29,14 @@ pub const READER_ROOM: u32 = 11;
 pub const WINDOW_REFUSED: u32 = 12;
 
 pub const NO_ROOT: u32 = 13;
+
+pub const FILE_ROOM: u32 = 14;
+
+pub const FILE_LENGTH: u32 = 15;
+
+pub const BAD_CORNER: u32 = 16;
+
+pub const CORNER_ROOM: u32 = 17;
 
 // Refusals 1 to 4: what is wrong with the options or the path of a call.
 pub enum Refusal {
