@@ -23,6 +23,8 @@ pub fn answer(line: &[u8], out: &mut Buffer, p: Printed) -> Printed {
         Kind::Window => case_window::answer(line, rest, out, p),
         Kind::Join => join_case::answer(line, rest, out, p),
         Kind::Cap => cap_case::answer(line, rest, out, p),
+        Kind::StlWrite => case_stl::writing::answer(line, rest, out, p),
+        Kind::StlRead => case_stl::reading::answer(line, rest, out, p),
         Kind::None => bad_line(out, p),
     }
 }
@@ -35,6 +37,8 @@ enum Kind {
     Window,
     Join,
     Cap,
+    StlWrite,
+    StlRead,
     None,
 }
 
@@ -59,6 +63,12 @@ fn kind_of(word: &[u8]) -> Kind {
     }
     if check::same(word, b"cap") {
         return Kind::Cap;
+    }
+    if check::same(word, b"stlwrite") {
+        return Kind::StlWrite;
+    }
+    if check::same(word, b"stlread") {
+        return Kind::StlRead;
     }
     Kind::None
 }

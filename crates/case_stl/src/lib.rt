@@ -1,0 +1,6 @@
+// The answers to `stlwrite` and `stlread` lines.
+mod number_lists;
+mod read_call;
+pub mod reading;
+mod write_call;
+pub mod writing;
