@@ -33,7 +33,11 @@ enum stipeharbor_number {
     STIPEHARBOR_OUT_OF_FORM = 9,    /* from the byte at the place on, or at its end, the text is no path text */
     STIPEHARBOR_TOO_LARGE = 10,     /* the number that begins at the place is beyond STIPEHARBOR_COORDINATE_LIMIT in size */
     STIPEHARBOR_NO_ROOM = 11,       /* the verb list or the coordinate list is too short, or the path has more than STIPEHARBOR_VERB_LIMIT verbs */
-    STIPEHARBOR_NO_ROOT = 13        /* the root of a negative, -0, infinite or NaN */
+    STIPEHARBOR_NO_ROOT = 13,       /* the root of a negative, -0, infinite or NaN */
+    STIPEHARBOR_FILE_ROOM = 14,     /* the byte list is too short for the STL file */
+    STIPEHARBOR_FILE_LENGTH = 15,   /* the STL file is not as long as its count of triangles says */
+    STIPEHARBOR_CORNER = 16,        /* the triangle at the place has a corner that is not finite, a z that is not zero or, in writing, a number that has no vertex */
+    STIPEHARBOR_CORNER_ROOM = 17    /* the list is too short for the STL file's corners */
 };
 
 /* Verbs. A begin and a line have two coordinates each. */
@@ -104,6 +108,26 @@ uint32_t stipeharbor_compute_normal(
     float x2,
     float y2,
     float *normal, size_t normal_len);
+
+/* Writes a mesh as binary STL to the start of `bytes`: 80 zero bytes, the number of triangles, then 50 bytes to a triangle, with x and y of its corners; normals, z and
+ * the last two bytes are zero. 84 + 50 * n bytes are needed for n triangles; bytes behind them keep what they have. `vertices` and `triangles` are as
+ * stipeharbor_tessellate writes them, cut to the counts that it answered: a vertex is five floats, a triangle three numbers, and what is left over at an end is no part.
+ * Refusals 14 and 16; one leaves `bytes` as they were.
+ * `answer` gets the place (of 16, else 0) and the number of bytes (of 0, else 0). */
+uint32_t stipeharbor_stl_write(
+    const float *vertices, size_t vertices_len,
+    const uint16_t *triangles, size_t triangles_len,
+    uint8_t *bytes, size_t bytes_len,
+    size_t *answer, size_t answer_len);
+
+/* Reads a binary STL file: x and y of each corner, six floats to a triangle, to the start of `corners`. Floats behind them keep what they have. Header, normals and the last two
+ * bytes of a triangle are not looked at; z may be 0 or -0. What stipeharbor_stl_write wrote is read back bit for bit.
+ * Refusals 15 to 17; one leaves `corners` as they were.
+ * `answer` gets the place (of 16, else 0) and the number of floats (of 0, else 0). */
+uint32_t stipeharbor_stl_read(
+    const uint8_t *bytes, size_t bytes_len,
+    float *corners, size_t corners_len,
+    size_t *answer, size_t answer_len);
 
 #ifdef __cplusplus
 }

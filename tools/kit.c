@@ -52,10 +52,39 @@ static void values(void)
     expect(stipeharbor_root(-1.0f, value, 2) == STIPEHARBOR_NO_ROOT && value[0] == 0.0f, "a refusal has the value +0");
 }
 
+/* A file of one triangle, its count and its second corner's x looked at, and read back; refusals 14 to 17, each changing nothing. */
+static void stl(void)
+{
+    static const float vertices[] = {0.0f, -0.0f, 9.0f, 9.0f, 9.0f, 1.0f, 2.0f, 9.0f, 9.0f, 9.0f};
+    static const uint16_t triangles[] = {0, 1, 0, 1, 0, 2};
+    uint8_t bytes[185];
+    float corners[7] = {UNTOUCHED, UNTOUCHED, UNTOUCHED, UNTOUCHED, UNTOUCHED, UNTOUCHED, UNTOUCHED};
+    size_t answer[3] = {UNTOUCHED, UNTOUCHED, UNTOUCHED};
+    for (size_t i = 0; i < sizeof bytes; i++)
+        bytes[i] = UNTOUCHED;
+    expect(stipeharbor_stl_write(vertices, 10, triangles, 3, bytes, 133, answer, 1) == STIPEHARBOR_FILE_ROOM && answer[0] == 0 && answer[1] == UNTOUCHED && bytes[0] == UNTOUCHED,
+           "133 bytes are too few");
+    expect(stipeharbor_stl_write(vertices, 10, triangles, 6, bytes, 185, answer, 3) == STIPEHARBOR_CORNER && answer[0] == 1 && answer[1] == 0 && bytes[0] == UNTOUCHED,
+           "the second triangle has a number without a vertex");
+    expect(stipeharbor_stl_write(vertices, 10, triangles, 3, bytes, 185, answer, 3) == STIPEHARBOR_ACCEPTED && answer[0] == 0 && answer[1] == 134 && answer[2] == UNTOUCHED,
+           "a triangle is a file of 134 bytes");
+    expect(bytes[0] == 0 && bytes[80] == 1 && bytes[83] == 0 && bytes[110] == 0x80 && bytes[111] == 0x3F && bytes[133] == 0 && bytes[134] == UNTOUCHED, "the bytes of the file");
+    expect(stipeharbor_stl_read(bytes, 134, corners, 5, answer, 3) == STIPEHARBOR_CORNER_ROOM && answer[1] == 0 && corners[0] == UNTOUCHED, "five floats are too few");
+    expect(stipeharbor_stl_read(bytes, 135, corners, 7, NULL, 0) == STIPEHARBOR_FILE_LENGTH && corners[0] == UNTOUCHED, "a byte too many");
+    expect(stipeharbor_stl_read(bytes, 134, corners, 7, answer, 3) == STIPEHARBOR_ACCEPTED && answer[1] == 6 && corners[2] == 1.0f && corners[3] == 2.0f && corners[6] == UNTOUCHED,
+           "the corners are read back");
+    bytes[104] = 1;
+    expect(stipeharbor_stl_read(bytes, 134, corners, 5, answer, 3) == STIPEHARBOR_CORNER && answer[0] == 0, "a z that is not zero is told before want of room");
+    expect(stipeharbor_stl_write(NULL, 0, NULL, 0, bytes, 84, NULL, 0) == STIPEHARBOR_ACCEPTED && stipeharbor_stl_read(bytes, 84, NULL, 0, NULL, 0) == STIPEHARBOR_ACCEPTED,
+           "no triangles are a file");
+    expect(stipeharbor_stl_read(NULL, 0, NULL, 0, NULL, 0) == STIPEHARBOR_FILE_LENGTH, "no bytes are none");
+}
+
 int main(void)
 {
     short_answers();
     nulls();
     values();
+    stl();
     return failures != 0;
 }

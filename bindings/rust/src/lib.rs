@@ -1,4 +1,4 @@
-//! The proved library's four calls in safe Rust. A path goes in; the mesh of its stripe or one
+//! The proved library's six calls in safe Rust. A path goes in; the mesh of its stripe or one
 //! [`Refusal`] comes out.
 //!
 //! ```
@@ -158,4 +158,38 @@ pub fn compute_normal(v1: [f32; 2], v2: [f32; 2]) -> Result<[f32; 2], Refusal> {
     let mut normal = [0.0; 2];
     let number = raw::compute_normal(v1[0], v1[1], v2[0], v2[1], &mut normal);
     Refusal::or(number, 0, 0, 0).map(|()| normal)
+}
+
+/// Writes a mesh as binary STL to the start of `bytes`, and says how many: 84, and 50 to a triangle.
+/// The lists are those that [`tessellate`] fills, cut to its counts; what is left over of five
+/// floats or three numbers is no part.
+pub fn stl_write(vertices: &[f32], triangles: &[u16], bytes: &mut [u8]) -> Result<usize, Refusal> {
+    let mut answer = [0; 2];
+    let number = raw::stl_write(vertices, triangles, bytes, &mut answer);
+    let [place, count] = answer;
+    Refusal::or(number, place, 0, 0).map(|()| count)
+}
+
+/// Reads the corners of a binary STL file, x and y of each, to the start of `corners`, and says how
+/// many floats: six to a triangle.
+pub fn stl_read(bytes: &[u8], corners: &mut [f32]) -> Result<usize, Refusal> {
+    let mut answer = [0; 2];
+    let number = raw::stl_read(bytes, corners, &mut answer);
+    let [place, count] = answer;
+    Refusal::or(number, place, 0, 0).map(|()| count)
+}
+
+/// [`stl_write`] into a list of its own.
+pub fn stl_file(vertices: &[f32], triangles: &[u16]) -> Result<Vec<u8>, Refusal> {
+    let mut bytes = vec![0; 84 + 50 * (triangles.len() / 3)];
+    stl_write(vertices, triangles, &mut bytes)?;
+    Ok(bytes)
+}
+
+/// [`stl_read`] into a list of its own: a triangle takes 50 bytes of the file and six floats here.
+pub fn stl_corners(bytes: &[u8]) -> Result<Vec<f32>, Refusal> {
+    let mut corners = vec![0.0; 6 * (bytes.len() / 50)];
+    let count = stl_read(bytes, &mut corners)?;
+    corners.truncate(count);
+    Ok(corners)
 }

@@ -1,4 +1,4 @@
-//! The four calls as C has them, on slices: each returns the number, and writes what it stands for
+//! The six calls as C has them, on slices: each returns the number, and writes what it stands for
 //! over the start of its last list, as far as that goes. Joins and caps are numbers here, any at
 //! all. No other file has `unsafe`.
 
@@ -38,6 +38,24 @@ extern "C" {
         y2: f32,
         normal: *mut f32,
         normal_len: usize,
+    ) -> u32;
+    fn stipeharbor_stl_write(
+        vertices: *const f32,
+        vertices_len: usize,
+        triangles: *const u16,
+        triangles_len: usize,
+        bytes: *mut u8,
+        bytes_len: usize,
+        answer: *mut usize,
+        answer_len: usize,
+    ) -> u32;
+    fn stipeharbor_stl_read(
+        bytes: *const u8,
+        bytes_len: usize,
+        corners: *mut f32,
+        corners_len: usize,
+        answer: *mut usize,
+        answer_len: usize,
     ) -> u32;
 }
 
@@ -104,4 +122,41 @@ pub fn root(x: f32, value: &mut [f32]) -> u32 {
 pub fn compute_normal(x1: f32, y1: f32, x2: f32, y2: f32, normal: &mut [f32]) -> u32 {
     // SAFETY: the pair is a live slice's, borrowed exclusively.
     unsafe { stipeharbor_compute_normal(x1, y1, x2, y2, normal.as_mut_ptr(), normal.len()) }
+}
+
+/// `answer` gets the place and the number of bytes.
+pub fn stl_write(
+    vertices: &[f32],
+    triangles: &[u16],
+    bytes: &mut [u8],
+    answer: &mut [usize],
+) -> u32 {
+    // SAFETY: each pair is a live slice's; those that are written are exclusive borrows.
+    unsafe {
+        stipeharbor_stl_write(
+            vertices.as_ptr(),
+            vertices.len(),
+            triangles.as_ptr(),
+            triangles.len(),
+            bytes.as_mut_ptr(),
+            bytes.len(),
+            answer.as_mut_ptr(),
+            answer.len(),
+        )
+    }
+}
+
+/// `answer` gets the place and the number of floats.
+pub fn stl_read(bytes: &[u8], corners: &mut [f32], answer: &mut [usize]) -> u32 {
+    // SAFETY: each pair is a live slice's; those that are written are exclusive borrows.
+    unsafe {
+        stipeharbor_stl_read(
+            bytes.as_ptr(),
+            bytes.len(),
+            corners.as_mut_ptr(),
+            corners.len(),
+            answer.as_mut_ptr(),
+            answer.len(),
+        )
+    }
 }

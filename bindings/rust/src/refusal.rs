@@ -60,6 +60,18 @@ pub enum Refusal {
     NoRoom,
     /// 13: the root of a negative, -0, infinite or NaN.
     NoRoot,
+    /// 14: the byte list is too short for the STL file.
+    FileRoom,
+    /// 15: the STL file is not as long as its count of triangles says.
+    FileLength,
+    /// 16: the triangle at the place has a corner that is not finite, a z that is not zero or, in
+    /// writing, a number that has no vertex.
+    Corner {
+        /// Which triangle.
+        place: usize,
+    },
+    /// 17: the list is too short for the STL file's corners.
+    CornerRoom,
 }
 
 impl Refusal {
@@ -90,6 +102,10 @@ impl Refusal {
             10 => Refusal::TooLarge { place },
             11 => Refusal::NoRoom,
             13 => Refusal::NoRoot,
+            14 => Refusal::FileRoom,
+            15 => Refusal::FileLength,
+            16 => Refusal::Corner { place },
+            17 => Refusal::CornerRoom,
             _ => unreachable!("the library is proved to answer no other number"),
         })
     }
@@ -109,6 +125,10 @@ impl Refusal {
             Refusal::TooLarge { .. } => 10,
             Refusal::NoRoom => 11,
             Refusal::NoRoot => 13,
+            Refusal::FileRoom => 14,
+            Refusal::FileLength => 15,
+            Refusal::Corner { .. } => 16,
+            Refusal::CornerRoom => 17,
         }
     }
 
@@ -119,7 +139,8 @@ impl Refusal {
             | Refusal::Coordinate { place }
             | Refusal::ShortEdge { place }
             | Refusal::OutOfForm { place }
-            | Refusal::TooLarge { place } => place,
+            | Refusal::TooLarge { place }
+            | Refusal::Corner { place } => place,
             _ => 0,
         }
     }

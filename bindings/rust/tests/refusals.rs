@@ -1,6 +1,7 @@
 //! Each refusal, on its smallest input, and what an accepted call answers.
 
 use stipeharbor::{compute_normal, read, root, tessellate};
+use stipeharbor::{stl_corners, stl_file, stl_read, stl_write};
 use stipeharbor::{Cap, Join, Mesh, Options, Path, Refusal, BEGIN, END_CLOSED, END_OPEN, LINE};
 use stipeharbor::{MERGE_RANGE_LEAST, MERGE_RANGE_MOST};
 
@@ -124,6 +125,34 @@ fn of_values() {
     assert_eq!(compute_normal([1.0, 0.0], [1.0, 0.0]), Ok([-0.0, 1.0]));
     let refused = compute_normal([1.0, 0.0], [2.5, 0.0]);
     assert_eq!(refused, Err(Refusal::Coordinate { place: 0 }));
+}
+
+#[test]
+fn of_stl() {
+    let vertices = [0.0, -0.0, 9.0, 9.0, 9.0, 1.0, 2.0, 9.0, 9.0, 9.0];
+    let write = |triangles: &[u16], room: usize| {
+        let mut bytes = vec![7; room];
+        let answer = stl_write(&vertices, triangles, &mut bytes);
+        assert!(answer.is_ok() || bytes.iter().all(|&b| b == 7));
+        answer
+    };
+    assert_eq!(write(&[0, 1, 0], 134), Ok(134));
+    assert_eq!(write(&[0, 1, 2], 133), Err(Refusal::FileRoom));
+    assert_eq!(
+        write(&[0, 1, 0, 0, 1, 2], 184),
+        Err(Refusal::Corner { place: 1 })
+    );
+
+    let file = stl_file(&vertices, &[0, 1, 0]).expect("a file");
+    let corners = stl_corners(&file).expect("its corners");
+    let bits = |floats: &[f32]| floats.iter().map(|x| x.to_bits()).collect::<Vec<_>>();
+    assert_eq!(bits(&corners), bits(&[0.0, -0.0, 1.0, 2.0, 0.0, -0.0]));
+    assert_eq!(stl_corners(&file[1..]), Err(Refusal::FileLength));
+    assert_eq!(stl_read(&file, &mut [0.0; 5]), Err(Refusal::CornerRoom));
+    let mut high = file;
+    high[104] = 1;
+    assert_eq!(stl_corners(&high), Err(Refusal::Corner { place: 0 }));
+    assert_eq!(stl_corners(&[0; 84]), Ok(Vec::new()));
 }
 
 #[test]

@@ -18,7 +18,10 @@ use Rattle.mesh.specs.declared.answer.MeshAnswer.{MeshAnswer}
 use Rattle.reader.specs.Outcome as reader
 use Rattle.reader.specs.Reads.{Reads}
 use Rattle.reader.specs.declared.answer.ReadAnswer.{ReadAnswer}
-use Rattle.stipeharbor.specs.Calls.{tessellateOutOf, readOutOf, ReadsOut, rootOutOf, RootsOut, normalOutOf}
+use Rattle.stl.specs.Read.{readOf}
+use Rattle.stl.specs.Write.{writeOf}
+use Rattle.stl.specs.declared.answer.StlAnswer.{StlAnswer}
+use Rattle.stipeharbor.specs.Calls.{tessellateOutOf, readOutOf, ReadsOut, rootOutOf, RootsOut, normalOutOf, stlWriteOutOf, stlReadOutOf}
 
 pub is-tessellated : (verbs : List ℕ) (coords : List Float) (options : Options) (l : Lists) (answer : List ℕ) {l' : Lists} {r : MeshAnswer} → record { answer = r; lists = l' } ≡ outcomeOf verbs coords options l
     → {a : MeshAnswer} → a ≡ r → {answer' : List ℕ} → answer' ≡ over (a .place ∷ a .vertices ∷ a .triangles ∷ []) answer
@@ -46,3 +49,17 @@ pub normal-out : (x1 y1 x2 y2 : Float) (normal : List Float) (d : JoinDirection)
     → record { number = a .number; floats = normal' } ≡ normalOutOf x1 y1 x2 y2 normal
 unfolding normalOutOf
 normal-out x1 y1 x2 y2 normal d h a e normal' w = rw (← h, ← e, w)
+
+pub stl-written : (v : List Float) (t bytes bytes' answer : List ℕ) (r : StlAnswer) → record { answer = r; bytes = bytes' } ≡ writeOf v t bytes
+    → (a : StlAnswer) → a ≡ r
+    → (answer' : List ℕ) → answer' ≡ over (a .place ∷ a .count ∷ []) answer
+    → record { number = a .number; answer = answer'; bytes = bytes' } ≡ stlWriteOutOf v t bytes answer
+unfolding stlWriteOutOf
+stl-written v t bytes bytes' answer r h a e answer' w = rw (← h, ← e, w)
+
+pub stl-corners : (bytes : List ℕ) (corners corners' : List Float) (answer : List ℕ) (r : StlAnswer) → record { answer = r; corners = corners' } ≡ readOf bytes corners
+    → (a : StlAnswer) → a ≡ r
+    → (answer' : List ℕ) → answer' ≡ over (a .place ∷ a .count ∷ []) answer
+    → record { number = a .number; answer = answer'; corners = corners' } ≡ stlReadOutOf bytes corners answer
+unfolding stlReadOutOf
+stl-corners bytes corners corners' answer r h a e answer' w = rw (← h, ← e, w)

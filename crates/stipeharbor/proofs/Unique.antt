@@ -9,7 +9,7 @@ use Rattle.options.specs.declared.Options.{Options}
 use Rattle.pieces.specs.Piece.{Lists}
 use Rattle.reader.specs.Outcome as reader
 use Rattle.reader.proofs.Meets.{same-outcome}
-use Rattle.stipeharbor.specs.Calls.{Tessellated, tessellateOutOf, ReadOut, readOutOf, ReadsOut, FloatsOut, rootOutOf, RootsOut, normalOutOf}
+use Rattle.stipeharbor.specs.Calls.{Tessellated, tessellateOutOf, ReadOut, readOutOf, ReadsOut, FloatsOut, rootOutOf, RootsOut, normalOutOf, StlWritten, stlWriteOutOf, StlCorners, stlReadOutOf}
 
 pub tessellate-out-one : (verbs : List ℕ) (coords : List Float) (options : Options) (l : Lists) (answer : List ℕ) (a b : Tessellated)
     → a ≡ tessellateOutOf verbs coords options l answer → b ≡ tessellateOutOf verbs coords options l answer → a ≡ b
@@ -25,3 +25,9 @@ root-out-one x value a b h k =
 
 pub normal-out-one : (x1 y1 x2 y2 : Float) (normal : List Float) (a b : FloatsOut) → a ≡ normalOutOf x1 y1 x2 y2 normal → b ≡ normalOutOf x1 y1 x2 y2 normal → a ≡ b
 normal-out-one x1 y1 x2 y2 normal a b h k = h ∙ sym k
+
+pub stl-write-out-one : (v : List Float) (t bytes answer : List ℕ) (a b : StlWritten) → a ≡ stlWriteOutOf v t bytes answer → b ≡ stlWriteOutOf v t bytes answer → a ≡ b
+stl-write-out-one v t bytes answer a b h k = h ∙ sym k
+
+pub stl-read-out-one : (bytes : List ℕ) (corners : List Float) (answer : List ℕ) (a b : StlCorners) → a ≡ stlReadOutOf bytes corners answer → b ≡ stlReadOutOf bytes corners answer → a ≡ b
+stl-read-out-one bytes corners answer a b h k = h ∙ sym k

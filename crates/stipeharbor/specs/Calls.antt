@@ -14,6 +14,8 @@ use Rattle.pieces.specs.Piece.{Lists, lent}
 use Rattle.mesh.specs.Mesh.{outcomeOf}
 use Rattle.reader.specs.Outcome as reader
 use Rattle.reader.specs.Reads.{Reads}
+use Rattle.stl.specs.Read.{readOf}
+use Rattle.stl.specs.Write.{writeOf}
 
 -- ---- stipeharbor_tessellate
 abbrev pub optionsOf : Float → Float → ℕ → ℕ → Float → Options
@@ -71,3 +73,26 @@ unfoldable pub normalOutOf : Float → Float → Float → Float → List Float 
 normalOutOf x1 y1 x2 y2 normal =
     let a = computeNormalOf (point x1 y1) (point x2 y2) in
     record { number = a .number; floats = over (a .x ∷ a .y ∷ []) normal }
+
+-- ---- stipeharbor_stl_write and stipeharbor_stl_read: the place, then the count
+pub record StlWritten : Type 0 where
+  pub number : ℕ
+  pub answer : List ℕ
+  pub bytes : List ℕ
+
+unfoldable pub stlWriteOutOf : List Float → List ℕ → List ℕ → List ℕ → StlWritten
+stlWriteOutOf v t bytes answer =
+    let o = writeOf v t bytes in
+    let a = o .answer in
+    record { number = a .number; answer = over (a .place ∷ a .count ∷ []) answer; bytes = o .bytes }
+
+pub record StlCorners : Type 0 where
+  pub number : ℕ
+  pub answer : List ℕ
+  pub corners : List Float
+
+unfoldable pub stlReadOutOf : List ℕ → List Float → List ℕ → StlCorners
+stlReadOutOf bytes corners answer =
+    let o = readOf bytes corners in
+    let a = o .answer in
+    record { number = a .number; answer = over (a .place ∷ a .count ∷ []) answer; corners = o .corners }

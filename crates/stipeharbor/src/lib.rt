@@ -1,9 +1,10 @@
-// The library as C and Rust link it: four calls over numbers and slices, each answering document 01's number. What a number stands for is written over
+// The library as C and Rust link it: six calls over numbers and slices, each answering document 01's number. What a number stands for is written over
 // the start of a list that the caller lends, as far as that list goes, so no call has a `requires`.
 mod put;
 
 use crate::put::put_float;
 use crate::put::put_numbers;
+use crate::put::put_pair;
 use crate::put::put_vector;
 use mesh::answer::mesh_answer_of;
 use mesh::tessellate;
@@ -16,9 +17,13 @@ use reader::answer::read_answer_of;
 use reader::read;
 use root::answer_of;
 use root::root;
+use stl_read::answer::corners_answer_of;
+use stl_read::stl_read;
+use stl_write::answer::written_answer_of;
+use stl_write::stl_write;
 ghost use mathlib.Core.Path.{_≡_};
 ghost use Rattle.pieces.specs.Piece.{lent};
-ghost use Rattle.stipeharbor.specs.Calls.{optionsOf, tessellated, tessellateOutOf, normalOutOf, ReadsOut, RootsOut};
+ghost use Rattle.stipeharbor.specs.Calls.{optionsOf, tessellated, tessellateOutOf, normalOutOf, ReadsOut, RootsOut, stlWriteOutOf, stlReadOutOf};
 
 // The mesh call. `answer` gets the place, the number of vertices and the number of triangles.
 #[no_mangle]
@@ -89,4 +94,33 @@ pub extern "C" fn stipeharbor_compute_normal(
     let a = normal_answer_of(compute_normal(v1, v2));
     put_vector(normal, a.x, a.y);
     a.number
+}
+
+// Writes a mesh as binary STL. `answer` gets the place and the number of bytes.
+#[no_mangle]
+pub extern "C" fn stipeharbor_stl_write(
+    vertices: &[f32],
+    triangles: &[u16],
+    bytes: &mut [u8],
+    answer: &mut [usize],
+) -> u32
+    ensures { λ r. ⌜ record { number = r; answer = now (answer .exit); bytes = now (bytes .exit) } ≡ stlWriteOutOf (now (vertices .entry)) (now (triangles .entry)) (now (bytes .entry)) (now (answer .entry)) ⌝ }
+{
+    let w = written_answer_of(stl_write(vertices, triangles, bytes));
+    put_pair(answer, w.place, w.count);
+    w.number
+}
+
+// Reads the corners of a binary STL file. `answer` gets the place and the number of floats.
+#[no_mangle]
+pub extern "C" fn stipeharbor_stl_read(
+    bytes: &[u8],
+    corners: &mut [f32],
+    answer: &mut [usize],
+) -> u32
+    ensures { λ r. ⌜ record { number = r; answer = now (answer .exit); corners = now (corners .exit) } ≡ stlReadOutOf (now (bytes .entry)) (now (corners .entry)) (now (answer .entry)) ⌝ }
+{
+    let c = corners_answer_of(stl_read(bytes, corners));
+    put_pair(answer, c.place, c.count);
+    c.number
 }

@@ -43,3 +43,17 @@ pub(crate) fn put_vector(list: &mut [f32], x: f32, y: f32)
     }
     list[1] = y;
 }
+
+pub(crate) fn put_pair(list: &mut [usize], a: usize, b: usize)
+    ensures { λ _. ⌜ now (list .exit) ≡ over (a ∷ b ∷ []) (now (list .entry)) ⌝ }
+{
+    let n = list.len();
+    if n < 1 {
+        return;
+    }
+    list[0] = a;
+    if n < 2 {
+        return;
+    }
+    list[1] = b;
+}

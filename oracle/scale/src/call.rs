@@ -1,16 +1,17 @@
 //! One case given to both sides.
 
 use crate::list::List;
-use oracle::case::{Case, MeshCase, ReadCase};
+use oracle::case::{Case, MeshCase, ReadCase, StlReadCase, StlWriteCase};
 use oracle::gen::Rng;
 use oracle::mesh::mesh;
 use oracle::normal::public_normal;
+use oracle::outcome::Refusal;
 use oracle::path::Path;
 use oracle::plane::vector;
 use oracle::reader::read;
 use oracle::root::public_root;
 use oracle::routines::Routines;
-use oracle::Judge;
+use oracle::{stl, Judge};
 use stipeharbor::raw;
 
 /// The lists of all calls, kept between cases.
@@ -22,6 +23,8 @@ pub struct Lists {
     coordinates: List<f32>,
     answer: List<usize>,
     values: List<f32>,
+    bytes: List<u8>,
+    corners: List<f32>,
 }
 
 /// The number that both sides answered, or what differs.
@@ -37,6 +40,8 @@ impl Lists {
             Case::Read(case) => self.hold_read(case),
             Case::Root(x) => self.hold_root(*x, length),
             Case::Normal(floats) => self.hold_normal(*floats, length),
+            Case::StlWrite(case) => self.hold_stl_write(case),
+            Case::StlRead(case) => self.hold_stl_read(case),
             _ => Err("no call of the library".to_string()),
         }
     }
@@ -108,6 +113,66 @@ impl Lists {
         alike(self.values.difference("normal"))?;
         Ok(number)
     }
+
+    fn hold_stl_write(&mut self, case: &StlWriteCase) -> Held {
+        self.bytes.lend(case.byte_len);
+        let (vertices, triangles) = (&case.vertices, &case.triangles);
+        let number = raw::stl_write(vertices, triangles, self.bytes.ours(), self.answer.ours());
+        let told = stl::write(vertices, triangles, self.bytes.theirs());
+        self.hold_count(number, told)?;
+        alike(self.bytes.difference("bytes"))?;
+        Ok(number)
+    }
+
+    fn hold_stl_read(&mut self, case: &StlReadCase) -> Held {
+        self.corners.lend(case.corner_len);
+        let number = raw::stl_read(&case.bytes, self.corners.ours(), self.answer.ours());
+        let told = stl::read(&case.bytes, self.corners.theirs());
+        self.hold_count(number, told)?;
+        alike(self.corners.difference("corners"))?;
+        Ok(number)
+    }
+
+    /// A mesh written and read back by the library: the file is the oracle's, and each triangle's
+    /// corners come back bit for bit, in order. A corner of a drawn mesh that is not finite is
+    /// refused on both sides.
+    pub fn hold_back(&mut self, case: &StlWriteCase) -> Held {
+        self.answer.lend(2);
+        let number = self.hold_stl_write(case)?;
+        if number != 0 {
+            return Ok(number);
+        }
+        let file = &self.bytes.ours()[..84 + 50 * (case.triangles.len() / 3)];
+        let due: Vec<f32> = corners(&case.vertices, &case.triangles).collect();
+        self.corners.lend(due.len() + 1);
+        let number = raw::stl_read(file, self.corners.ours(), self.answer.ours());
+        self.corners.expect(&due);
+        self.answer.expect(&[0, due.len()]);
+        held(number, 0)?;
+        alike(self.answer.difference("answer"))?;
+        alike(self.corners.difference("corners"))?;
+        Ok(number)
+    }
+
+    /// The answer of a call with one count.
+    fn hold_count(&mut self, ours: u32, told: Result<usize, Refusal>) -> Result<(), String> {
+        let (number, place, count) = match told {
+            Ok(count) => (0, 0, count),
+            Err(refusal) => (refusal.number, refusal.place, 0),
+        };
+        self.answer.expect(&[place, count]);
+        held(ours, number)?;
+        alike(self.answer.difference("answer"))
+    }
+}
+
+/// x and y of each triangle's corners, in order.
+fn corners<'a>(vertices: &'a [f32], triangles: &'a [u16]) -> impl Iterator<Item = f32> + 'a {
+    let named = triangles.chunks_exact(3).flatten();
+    named.flat_map(move |&number| {
+        let at = 5 * usize::from(number);
+        [vertices[at], vertices[at + 1]]
+    })
 }
 
 fn held(ours: u32, theirs: u32) -> Result<(), String> {

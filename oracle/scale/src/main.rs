@@ -1,27 +1,42 @@
-//! `scale SEED COUNT [mesh|read|root|normal]`: COUNT generated cases of each call, or of the one
-//! named, answered by the linked library and by the oracle, every lent list compared whole. Prints
-//! how often each number was answered; ends with 1 at the first difference, printing its case line.
+//! `scale SEED COUNT [KIND]`: COUNT generated cases of each call, or of the one named, answered by
+//! the linked library and by the oracle, every lent list compared whole. `damaged` is the oracle's
+//! list of damaged STL files, whatever the seed, and ends by itself; `back` has meshes written and
+//! read back by the library. Prints how often each number was answered; ends with 1 at the first
+//! difference, printing its case line.
 
 mod call;
 mod list;
 
 use call::Lists;
-use oracle::gen::{case, Kind, Rng};
+use oracle::case::Case;
+use oracle::gen::{case, damaged, sound, Kind, Rng};
+use std::iter::repeat_with;
 use std::process::ExitCode;
 use std::time::Instant;
 
-const KINDS: [(&str, Kind); 4] = [
-    ("mesh", Kind::Mesh),
-    ("read", Kind::Read),
-    ("root", Kind::Root),
-    ("normal", Kind::Normal),
+#[derive(Clone, Copy)]
+enum Of {
+    Call(Kind),
+    Damaged,
+    Back,
+}
+
+const KINDS: [(&str, Of); 8] = [
+    ("mesh", Of::Call(Kind::Mesh)),
+    ("read", Of::Call(Kind::Read)),
+    ("root", Of::Call(Kind::Root)),
+    ("normal", Of::Call(Kind::Normal)),
+    ("stlwrite", Of::Call(Kind::StlWrite)),
+    ("stlread", Of::Call(Kind::StlRead)),
+    ("damaged", Of::Damaged),
+    ("back", Of::Back),
 ];
 
 fn main() -> ExitCode {
     let words: Vec<String> = std::env::args().skip(1).collect();
     match arguments(&words) {
         Some((seed, count, kinds)) => {
-            let equal = |kind: &(&str, Kind)| compare(seed, count, kind.0, kind.1);
+            let equal = |kind: &(&str, Of)| compare(seed, count, kind.0, kind.1);
             if kinds.iter().all(equal) {
                 ExitCode::SUCCESS
             } else {
@@ -29,15 +44,16 @@ fn main() -> ExitCode {
             }
         }
         None => {
-            eprintln!("scale SEED COUNT [mesh|read|root|normal]");
+            let names = KINDS.map(|kind| kind.0).join("|");
+            eprintln!("scale SEED COUNT [{}]", names);
             ExitCode::from(2)
         }
     }
 }
 
-type Kinds = Vec<(&'static str, Kind)>;
+type Kinds = Vec<(&'static str, Of)>;
 
-fn arguments(words: &[String]) -> Option<(u64, u64, Kinds)> {
+fn arguments(words: &[String]) -> Option<(u64, usize, Kinds)> {
     let (seed, count, named) = match words {
         [seed, count] => (seed, count, KINDS.to_vec()),
         [seed, count, name] => {
@@ -49,15 +65,28 @@ fn arguments(words: &[String]) -> Option<(u64, u64, Kinds)> {
     Some((seed.parse().ok()?, count.parse().ok()?, named))
 }
 
-/// Whether all cases of a kind are answered alike.
-fn compare(seed: u64, count: u64, name: &str, kind: Kind) -> bool {
-    let start = Instant::now();
+fn cases(seed: u64, of: Of) -> Box<dyn Iterator<Item = Case>> {
     let mut rng = Rng::new(seed);
+    match of {
+        Of::Call(kind) => Box::new(repeat_with(move || case(&mut rng, kind))),
+        Of::Damaged => Box::new(damaged().map(Case::StlRead)),
+        Of::Back => Box::new(repeat_with(move || Case::StlWrite(sound(&mut rng)))),
+    }
+}
+
+/// Whether all cases of a kind are answered alike.
+fn compare(seed: u64, count: usize, name: &str, of: Of) -> bool {
+    let start = Instant::now();
+    let mut lengths = Rng::new(!seed);
     let mut lists = Lists::default();
-    let mut told = [0u64; 14];
-    for done in 0..count {
-        let case = case(&mut rng, kind);
-        match lists.hold(&mut rng, &case) {
+    let mut told = [0u64; 18];
+    let mut done = 0;
+    for case in cases(seed, of).take(count) {
+        let held = match (of, &case) {
+            (Of::Back, Case::StlWrite(case)) => lists.hold_back(case),
+            _ => lists.hold(&mut lengths, &case),
+        };
+        match held {
             Ok(number) => told[number as usize] += 1,
             Err(difference) => {
                 println!("{}\n{}", case.line(), difference);
@@ -68,6 +97,7 @@ fn compare(seed: u64, count: u64, name: &str, kind: Kind) -> bool {
                 return false;
             }
         }
+        done += 1;
     }
     let numbers = (0..).zip(told).filter(|&(_, n)| n > 0);
     let numbers: Vec<String> = numbers.map(|(i, n)| format!("{}: {}", i, n)).collect();
@@ -75,10 +105,10 @@ fn compare(seed: u64, count: u64, name: &str, kind: Kind) -> bool {
     println!(
         "{}: {} cases of seed {} equal, by number {}; {:.1} million a minute",
         name,
-        count,
+        done,
         seed,
         numbers.join(", "),
-        count as f64 * 60e-6 / seconds
+        done as f64 * 60e-6 / seconds
     );
     true
 }
