@@ -13,7 +13,7 @@ pub fn with_count(count: usize) -> StlAnswer
     ensures { λ r. ⌜ r ≡ withCount count ⌝ }
 {
     StlAnswer {
-        number: 0,
+        number: ACCEPTED,
         place: 0,
         count: count,
     }

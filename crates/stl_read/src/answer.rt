@@ -23,8 +23,8 @@ pub fn corners_answer_of(c: Corners) -> StlAnswer
 {
     match c {
         Corners::Floats(count) => with_count(count),
-        Corners::FileLength => with_place(15, 0),
-        Corners::Corner(place) => with_place(16, place),
-        Corners::CornerRoom => with_place(17, 0),
+        Corners::FileLength => with_place(FILE_LENGTH, 0),
+        Corners::Corner(place) => with_place(BAD_CORNER, place),
+        Corners::CornerRoom => with_place(CORNER_ROOM, 0),
     }
 }

@@ -21,7 +21,7 @@ pub fn written_answer_of(w: Written) -> StlAnswer
 {
     match w {
         Written::File(count) => with_count(count),
-        Written::FileRoom => with_place(14, 0),
-        Written::Corner(place) => with_place(16, place),
+        Written::FileRoom => with_place(FILE_ROOM, 0),
+        Written::Corner(place) => with_place(BAD_CORNER, place),
     }
 }

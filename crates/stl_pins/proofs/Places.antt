@@ -1,0 +1,87 @@
+-- The places that a mesh's vertices have are sums of f32, so f32 values. Assumes nothing.
+use Prim.Native.Nat.{ℕ, zero, suc, _+_, _*_}
+use mathlib.Core.Path.{_≡_, sym, subst}
+use mathlib.Core.Bool.{true, false}
+use mathlib.Core.List.{List, [], _∷_, _++_}
+use native.Mathlib.Omega.{arith}
+use lib.Dec.{T}
+use lib.Ieee.{Float, nan, binary32, fits, neg}
+use lib.Ieee.Fits.{add-fits, nan-fits}
+use lib.ListN.{getD}
+use Rattle.lists.specs.Over.{flat}
+use Rattle.plane.specs.F32.{f32}
+use Rattle.plane.specs.Vector.{plusOf}
+use Rattle.plane.specs.declared.vector.Point.{Point}
+use Rattle.endpoint.specs.declared.Endpoint.{Endpoint}
+use Rattle.endpoint.specs.declared.EndpointData.{EndpointData}
+use Rattle.endpoint.specs.declared.SidePoints.{SidePoints}
+use Rattle.endpoint.specs.declared.SidePoints.the-variants.{Single, Pair}
+use Rattle.pieces.specs.Piece.{Vertex, flatV}
+use Rattle.path.specs.Runs.{Run}
+use Rattle.options.specs.declared.Stroke.{Stroke}
+use Rattle.vertices.specs.Base.{baseVertexOf, sideVerticesOf}
+use Rattle.vertices.specs.Cap.{capVertexOf, capPairOf, capVerticesOf}
+use Rattle.vertices.specs.Vertex.{vertexOf}
+use Rattle.strip.specs.Joint.{jointVerticesOf, verticesOf}
+use Rattle.run.specs.Run.{Shape, nothing, emptyCap, along, shapeVertices}
+use Rattle.runs.specs.Runs.{drawnOf, meshVertices}
+use Rattle.stl.specs.Back.{PlacesHeld}
+
+abbrev PlaceHeld : Vertex → Type 0
+PlaceHeld v = T (fits binary32 (v .x)) × T (fits binary32 (v .y))
+
+abbrev AllHeld : List Vertex → Type 0
+AllHeld [] = Unit
+AllHeld (v ∷ vs) = PlaceHeld v × AllHeld vs
+
+append-held : (vs ws : List Vertex) → AllHeld vs → AllHeld ws → AllHeld (vs ++ ws)
+append-held [] ws h g = g
+append-held (v ∷ vs) ws (p, h) g = (p, append-held vs ws h g)
+
+-- in the list of floats, five to a vertex
+pub places-held : (vs : List Vertex) → AllHeld vs → PlacesHeld (flatV vs)
+unfolding flat
+places-held [] h i = (nan-fits binary32, nan-fits binary32)
+places-held (v ∷ vs) (p, h) zero = p
+places-held (v ∷ vs) (p, h) (suc i) =
+    let e : 5 * suc i ≡ suc (suc (suc (suc (suc (5 * i))))) = omega arith in
+    let f : 5 * suc i + 1 ≡ suc (suc (suc (suc (suc (5 * i + 1))))) = omega arith in
+    let r = places-held vs h i in
+    (subst (λ (n : ℕ). T (fits binary32 (getD (flatV (v ∷ vs)) n nan))) (sym e) (r .0), subst (λ (n : ℕ). T (fits binary32 (getD (flatV (v ∷ vs)) n nan))) (sym f) (r .1))
+
+-- ---- rule 8, and the empty cap
+base-held : (e : EndpointData) (x y : Float) → PlaceHeld (baseVertexOf e x y)
+unfolding baseVertexOf vertexOf plusOf
+base-held e x y = (add-fits binary32 _ _, add-fits binary32 _ _)
+
+side-held : (e : EndpointData) (s : SidePoints) → AllHeld (sideVerticesOf e s)
+unfolding sideVerticesOf
+side-held e (Single x y) = (base-held e x y, tt)
+side-held e (Pair x0 y0 x1 y1) = (base-held e x0 y0, (base-held e x1 y1, tt))
+
+joints-held : (js : List EndpointData) → AllHeld (verticesOf js)
+unfolding verticesOf jointVerticesOf
+joints-held [] = tt
+joints-held (j ∷ js) =
+    append-held (sideVerticesOf j (j .positive) ++ sideVerticesOf j (j .negative)) (verticesOf js)
+    (append-held (sideVerticesOf j (j .positive)) (sideVerticesOf j (j .negative)) (side-held j (j .positive)) (side-held j (j .negative))) (joints-held js)
+
+cap-held : (p : Point) (h a x y : Float) → PlaceHeld (capVertexOf p h a x y)
+unfolding capVertexOf vertexOf plusOf
+cap-held p h a x y = (add-fits binary32 _ _, add-fits binary32 _ _)
+
+caps-held : (p : Point) (h a : Float) → AllHeld (capVerticesOf p h a)
+unfolding capVerticesOf capPairOf
+caps-held p h a = (cap-held p h a _ _, (cap-held p h a _ _, (cap-held p h a _ _, (cap-held p h a _ _, tt))))
+
+-- ---- runs
+shape-held : (o : Stroke) (s : Shape) → AllHeld (shapeVertices o s)
+unfolding shapeVertices
+shape-held o nothing = tt
+shape-held o (emptyCap p) = caps-held (p .position) (o .«half_width») (f32 0)
+shape-held o (along js) = joints-held js
+
+pub mesh-held : (o : Stroke) (rs : List (Run Endpoint)) → AllHeld (meshVertices o rs)
+unfolding meshVertices
+mesh-held o [] = tt
+mesh-held o (r ∷ rs) = append-held (shapeVertices o (drawnOf o r)) (meshVertices o rs) (shape-held o (drawnOf o r)) (mesh-held o rs)
