@@ -1,4 +1,5 @@
 // What both calls answer, in the terms of the table.
+use refusals::ACCEPTED;
 ghost use mathlib.Core.Path.{_≡_};
 ghost use Rattle.stl.specs.Answer.{withCount, withPlace};
 

@@ -1,4 +1,7 @@
 // What reading answers.
+use refusals::BAD_CORNER;
+use refusals::CORNER_ROOM;
+use refusals::FILE_LENGTH;
 use stl::answer::StlAnswer;
 use stl::answer::with_count;
 use stl::answer::with_place;

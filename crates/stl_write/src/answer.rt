@@ -1,4 +1,6 @@
 // What writing answers.
+use refusals::BAD_CORNER;
+use refusals::FILE_ROOM;
 use stl::answer::StlAnswer;
 use stl::answer::with_count;
 use stl::answer::with_place;
