@@ -1,7 +1,7 @@
 -- `root` at every f32: which tests tell what of x, and what each answer means. Assumes nothing.
 use mathlib.Core.Path.{_≡_, refl, sym, ap, _∙_, subst}
 use mathlib.Core.Logic.{_⊎_, inl, inr}
-use Prim.Native.Nat.{ℕ, _+_, _*_, _^_, _≤_, _<_, zero-le}
+use Prim.Native.Nat.{ℕ, _+_, _*_, _%_, _^_, _≤_, _<_, zero-le}
 use native.Mathlib.Nat.{lt-of-not-le, not-suc-le-zero, mul-pos}
 use native.Mathlib.Decide.{decLe}
 use native.Mathlib.Omega.{arith}
@@ -34,6 +34,13 @@ bits-root b n g s C N =
           (C .operands .low);
       close = is-close x r (C .v) n s g (C .value) v (C .same) N;
     }
+
+-- the machine's shift of g drops nothing
+pub bits-root-shifted : (b n g s : ℕ) → Scaled b n g → Near n s → BitsRoot b (g * 8388608 % 4294967296 + s)
+bits-root-shifted b n g s C N =
+    let l = C .most in
+    let f : g * 8388608 % 4294967296 ≡ g * 8388608 = omega arith in
+    rw f (bits-root b n g s C N)
 
 -- ---- zero and its root
 pub zero-root : IsRoot (ofBits binary32 0) (ofBits binary32 0)

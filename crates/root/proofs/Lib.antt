@@ -4,13 +4,12 @@ pub mod Laws
 pub mod Computed
 pub mod Order
 pub mod Examples
--- below these: whole numbers (squares, bisection, exponents), floats (units, bit patterns, Newton's steps, the middles between two), and what
--- each test of `root` tells
+-- below these: whole numbers (squares, a root's digits, exponents), floats (units, bit patterns, the middles between two), and what each test
+-- of `root` tells
 pub mod Squares
-pub mod Bisection
+pub mod Digits
 pub mod Exponents
 pub mod Units
 pub mod Patterns
-pub mod Newton
 pub mod Middles
 pub mod Answering

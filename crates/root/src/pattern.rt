@@ -1,8 +1,8 @@
 // From the bit pattern of a positive f32 to that of its root.
 use crate::whole::nearest;
 ghost use mathlib.Core.Path.{_≡_};
-ghost use Prim.Native.Nat.{_-_, _/_, _<_};
-ghost use Rattle.root.specs.Steps.{Scaled, BitsRoot};
+ghost use Prim.Native.Nat.{_<_};
+ghost use Rattle.root.specs.Steps.{exponentOf, Scaled, BitsRoot};
 
 pub const INFINITY: u32 = 0x7f80_0000;
 
@@ -15,7 +15,7 @@ struct Operand {
 
 // One less than the exponent's field. A field of 0, a subnormal's, counts as a field of 1.
 fn exponent_of(b: u32) -> u32
-    ensures { λ r. ⌜ r ≡ b / 8388608 - 1 ⌝ }
+    ensures { λ r. ⌜ r ≡ exponentOf b ⌝ }
 {
     let field = b >> 23;
     if field == 0 {
@@ -31,12 +31,14 @@ fn operand_of(b: u32) -> Operand
     ensures { λ r. ⌜ Scaled b (r .n) (r .g) ⌝ }
 {
     let k = exponent_of(b);
-    let m = b - k * 8388608;
+    let m = b - (k << 23);
     let z = u32::leading_zeros(m);
     let v = k + 134 - z;
+    let g = v >> 1;
+    let odd = v - (g << 1);
     Operand {
-        n: (m as u64) << (z + 15 + v % 2),
-        g: v / 2,
+        n: (m as u64) << (z + 15 + odd),
+        g: g,
     }
 }
 
@@ -47,6 +49,6 @@ pub fn root_bits(b: u32) -> u32
     ensures { λ r. ⌜ BitsRoot b r ⌝ }
 {
     let x = operand_of(b);
-    let s = nearest(b, x.n);
-    x.g * 8388608 + s as u32
+    let s = nearest(x.n);
+    (x.g << 23) + s as u32
 }
