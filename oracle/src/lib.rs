@@ -3,11 +3,12 @@
 //!
 //! From the leaves up: `plane`, `root`, `normal`, `endpoint`, `window`, `edge`, `join`,
 //! `vertices` (the reading of the routines), `routines` (what the driver asks of them), `path`,
-//! `strip`, `mesh` (the driver), `reader`, `program`, `stl`. `shim` and `text` hold the cut text.
+//! `strip`, `mesh` (the driver), `decimal`, `reader`, `program`, `stl`. `shim` and `text` hold the cut text.
 //! `line`, `case`, `answer` are the cases and answers, `gen` makes cases.
 
 pub mod answer;
 pub mod case;
+pub mod decimal;
 pub mod edge;
 pub mod endpoint;
 pub mod gen;

@@ -1,12 +1,11 @@
-//! The path text reader: first the form alone (refusal 9), then the numbers' sizes (10), then
-//! the verbs and coordinates that the text means.
+//! The path text reader: first the form alone (refusal 9), then what the text means, number by number (10).
 
+use crate::decimal::Number;
 use crate::outcome::{refuse_if, Outcome, Refusal};
 use crate::path::{BEGIN, END_CLOSED, END_OPEN, LINE, MAX_VERBS};
 
 pub const MAX_TEXT: usize = 16_384;
-/// Sizes are kept up to one more than the largest accepted.
-const TOO_LARGE: u32 = 32_769;
+const MAX_NUMBER: f32 = 32_768.0;
 
 #[derive(Clone, Copy, PartialEq)]
 enum Class {
@@ -14,8 +13,11 @@ enum Class {
     Comma,
     Sign,
     Digit,
+    Point,
     Move,
     Line,
+    /// H and V, in either case.
+    Along,
     Close,
     Other,
 }
@@ -26,17 +28,21 @@ fn class(byte: u8) -> Class {
         b',' => Class::Comma,
         b'+' | b'-' => Class::Sign,
         b'0'..=b'9' => Class::Digit,
-        b'M' => Class::Move,
-        b'L' => Class::Line,
+        b'.' => Class::Point,
+        b'M' | b'm' => Class::Move,
+        b'L' | b'l' => Class::Line,
+        b'H' | b'h' | b'V' | b'v' => Class::Along,
         b'Z' | b'z' => Class::Close,
         _ => Class::Other,
     }
 }
 
+/// Which number of a command: x or y of a pair, or one alone.
 #[derive(Clone, Copy, PartialEq)]
 enum Axis {
     X,
     Y,
+    Alone,
 }
 
 /// Where in the form the text so far ends.
@@ -44,16 +50,18 @@ enum Axis {
 enum Mode {
     /// Before the first M.
     Start,
-    /// After M or L, before its first number.
-    Letter,
+    /// Before a number of that axis, behind a letter or a comma.
+    Want(Axis),
     /// In the number of that axis, behind its sign.
     Sign(Axis),
-    /// In the number of that axis, behind a digit.
-    Digits(Axis),
+    /// In the number of that axis, behind a digit before its point.
+    Whole(Axis),
+    /// In the number of that axis, behind its point.
+    Point(Axis),
+    /// In the number of that axis, behind so many digits after its point.
+    Fraction(Axis, usize),
     /// Behind the number of that axis and white space.
     Gap(Axis),
-    /// Behind a comma, before the number of that axis.
-    Comma(Axis),
     /// After Z.
     Closed,
 }
@@ -62,26 +70,40 @@ fn after(axis: Axis) -> Axis {
     match axis {
         Axis::X => Axis::Y,
         Axis::Y => Axis::X,
+        Axis::Alone => Axis::Alone,
     }
 }
 
 /// The mode after one more byte, or nothing where no text of the form begins so.
 fn step(mode: Mode, class: Class) -> Option<Mode> {
-    use Mode::{Closed, Comma, Digits, Gap, Letter, Sign, Start};
+    use Mode::{Closed, Fraction, Gap, Point, Sign, Start, Want, Whole};
     match (mode, class) {
-        (Start | Letter | Comma(_) | Closed, Class::White) => Some(mode),
-        (Digits(axis) | Gap(axis), Class::White) => Some(Gap(axis)),
-        (Digits(axis) | Gap(axis), Class::Comma) => Some(Comma(after(axis))),
-        (Letter, Class::Sign) => Some(Sign(Axis::X)),
-        (Comma(axis), Class::Sign) => Some(Sign(axis)),
-        (Digits(axis) | Gap(axis), Class::Sign) => Some(Sign(after(axis))),
-        (Letter, Class::Digit) => Some(Digits(Axis::X)),
-        (Comma(axis) | Sign(axis) | Digits(axis), Class::Digit) => Some(Digits(axis)),
-        (Gap(axis), Class::Digit) => Some(Digits(after(axis))),
-        (Start, Class::Move) => Some(Letter),
-        (Digits(Axis::Y) | Gap(Axis::Y) | Closed, Class::Move | Class::Line) => Some(Letter),
-        (Digits(Axis::Y) | Gap(Axis::Y) | Closed, Class::Close) => Some(Closed),
+        (Start | Want(_) | Closed, Class::White) => Some(mode),
+        (Whole(axis) | Fraction(axis, _) | Gap(axis), Class::White) => Some(Gap(axis)),
+        (Whole(axis) | Fraction(axis, _) | Gap(axis), Class::Comma) => Some(Want(after(axis))),
+        (Want(axis), Class::Sign) => Some(Sign(axis)),
+        (Whole(axis) | Fraction(axis, _) | Gap(axis), Class::Sign) => Some(Sign(after(axis))),
+        (Want(axis) | Sign(axis) | Whole(axis), Class::Digit) => Some(Whole(axis)),
+        (Point(axis), Class::Digit) => Some(Fraction(axis, 1)),
+        (Fraction(axis, places), Class::Digit) if places < 6 => Some(Fraction(axis, places + 1)),
+        (Gap(axis), Class::Digit) => Some(Whole(after(axis))),
+        (Want(axis) | Sign(axis) | Whole(axis), Class::Point) => Some(Point(axis)),
+        (Fraction(axis, _) | Gap(axis), Class::Point) => Some(Point(after(axis))),
+        (Start, Class::Move) => Some(Want(Axis::X)),
+        _ if !may_end(mode) || mode == Start => None,
+        (_, Class::Move | Class::Line) => Some(Want(Axis::X)),
+        (_, Class::Along) => Some(Want(Axis::Alone)),
+        (_, Class::Close) => Some(Closed),
         _ => None,
+    }
+}
+
+/// Whether a text that ends here has the form.
+fn may_end(mode: Mode) -> bool {
+    match mode {
+        Mode::Start | Mode::Closed => true,
+        Mode::Whole(axis) | Mode::Fraction(axis, _) | Mode::Gap(axis) => axis != Axis::X,
+        _ => false,
     }
 }
 
@@ -92,69 +114,45 @@ fn check_form(text: &[u8]) -> Result<(), Refusal> {
     for (place, &byte) in text.iter().enumerate() {
         mode = step(mode, class(byte)).ok_or(Refusal { number: 9, place })?;
     }
-    let whole = matches!(
-        mode,
-        Mode::Start | Mode::Digits(Axis::Y) | Mode::Gap(Axis::Y) | Mode::Closed
-    );
-    refuse_if(!whole, 9, text.len())
+    refuse_if(!may_end(mode), 9, text.len())
 }
 
-/// A piece of a text that has the form.
 #[derive(Clone, Copy)]
 enum Token {
-    Command(Class),
-    Number {
-        place: usize,
-        minus: bool,
-        size: u32,
-    },
+    Letter(u8),
+    Number(Number),
 }
 
 fn tokens(text: &[u8]) -> Vec<Token> {
     let mut tokens = Vec::new();
-    // Whether the number at the end of the list may still get a digit.
-    let mut going_on = false;
+    // The number that may still get a digit or its point.
+    let mut going: Option<Number> = None;
     for (place, &byte) in text.iter().enumerate() {
-        let class = class(byte);
-        match class {
-            Class::Move | Class::Line | Class::Close => tokens.push(Token::Command(class)),
-            Class::Sign => tokens.push(number(place, byte == b'-')),
-            Class::Digit => {
-                if !going_on {
-                    tokens.push(number(place, false));
+        match (class(byte), &mut going) {
+            (Class::Digit, Some(number)) => number.digit(byte),
+            (Class::Point, Some(number)) if !number.has_point() => number.point(),
+            (class, _) => {
+                tokens.extend(going.take().map(Token::Number));
+                match class {
+                    Class::Sign => going = Some(Number::at(place, byte == b'-')),
+                    Class::Digit | Class::Point => {
+                        let mut number = Number::at(place, false);
+                        match class {
+                            Class::Point => number.point(),
+                            _ => number.digit(byte),
+                        }
+                        going = Some(number);
+                    }
+                    Class::Move | Class::Line | Class::Along | Class::Close => {
+                        tokens.push(Token::Letter(byte));
+                    }
+                    _ => {}
                 }
-                take_digit(&mut tokens, byte);
             }
-            _ => {}
         }
-        going_on = class == Class::Sign || class == Class::Digit;
     }
+    tokens.extend(going.map(Token::Number));
     tokens
-}
-
-fn number(place: usize, minus: bool) -> Token {
-    Token::Number {
-        place,
-        minus,
-        size: 0,
-    }
-}
-
-/// A number has any number of digits; only its size counts.
-fn take_digit(tokens: &mut [Token], byte: u8) {
-    if let Some(Token::Number { size, .. }) = tokens.last_mut() {
-        *size = (*size * 10 + u32::from(byte - b'0')).min(TOO_LARGE);
-    }
-}
-
-/// Refusal 10: at the first byte of the first number beyond 32,768 in size.
-fn check_sizes(tokens: &[Token]) -> Result<(), Refusal> {
-    for token in tokens {
-        if let Token::Number { place, size, .. } = *token {
-            refuse_if(size >= TOO_LARGE, 10, place)?;
-        }
-    }
-    Ok(())
 }
 
 /// The path that the commands have drawn so far.
@@ -163,24 +161,33 @@ struct Drawing {
     verbs: Vec<u8>,
     coordinates: Vec<f32>,
     first: [f32; 2],
+    current: [f32; 2],
     /// A run has begun and not ended.
     inside: bool,
-    /// The next pair is that of an M.
+    /// The letter whose numbers are read.
+    letter: u8,
+    /// The next point is that of an M.
     moving: bool,
+    /// The x of a pair.
+    x: Option<f32>,
 }
 
 impl Drawing {
-    fn command(&mut self, class: Class) {
-        match class {
+    fn command(&mut self, letter: u8) {
+        match class(letter) {
             Class::Move => {
                 self.end(END_OPEN);
                 self.moving = true;
             }
+            Class::Close => {
+                self.end(END_CLOSED);
+                self.current = self.first;
+            }
             // "L after Z begins a run at the closed run's first point."
-            Class::Line if !self.inside => self.begin(self.first),
-            Class::Close => self.end(END_CLOSED),
+            _ if !self.inside => self.begin(self.first),
             _ => {}
         }
+        self.letter = letter;
     }
 
     fn begin(&mut self, at: [f32; 2]) {
@@ -199,43 +206,58 @@ impl Drawing {
         self.inside = false;
     }
 
-    fn pair(&mut self, at: [f32; 2]) {
+    fn point(&mut self, at: [f32; 2]) {
         if self.moving {
             self.begin(at);
         } else {
             self.verbs.push(LINE);
             self.coordinates.extend(at);
         }
+        self.current = at;
+    }
+
+    /// "Relative commands add in f32 to the current point": the coordinate that a number comes to, or refusal 10.
+    fn coordinate(&self, axis: usize, number: &Number) -> Result<f32, Refusal> {
+        let value = number.value();
+        let coordinate = if self.letter.is_ascii_lowercase() {
+            self.current[axis] + value
+        } else {
+            value
+        };
+        let beyond = number.is_beyond() || coordinate.abs() > MAX_NUMBER;
+        refuse_if(beyond, 10, number.place)?;
+        Ok(coordinate)
+    }
+
+    fn number(&mut self, number: &Number) -> Result<(), Refusal> {
+        let [x, y] = self.current;
+        match (self.letter.to_ascii_uppercase(), self.x.take()) {
+            (b'H', _) => self.point([self.coordinate(0, number)?, y]),
+            (b'V', _) => self.point([x, self.coordinate(1, number)?]),
+            (_, None) => self.x = Some(self.coordinate(0, number)?),
+            (_, Some(x)) => self.point([x, self.coordinate(1, number)?]),
+        }
+        Ok(())
     }
 }
 
-fn draw(tokens: &[Token]) -> Drawing {
+fn draw(tokens: &[Token]) -> Result<Drawing, Refusal> {
     let mut drawing = Drawing::default();
-    let mut x = None;
     for token in tokens {
-        match *token {
-            Token::Command(class) => drawing.command(class),
-            Token::Number { minus, size, .. } => {
-                // By way of a whole number: -0 reads as +0.
-                let value = (if minus { -1 } else { 1 } * size as i32) as f32;
-                match x.take() {
-                    None => x = Some(value),
-                    Some(x) => drawing.pair([x, value]),
-                }
-            }
+        match token {
+            Token::Letter(letter) => drawing.command(*letter),
+            Token::Number(number) => drawing.number(number)?,
         }
     }
     drawing.end(END_OPEN);
-    drawing
+    Ok(drawing)
 }
 
 /// The drawing, or the first of refusals 8 to 10.
 fn drawing(text: &[u8]) -> Result<Drawing, Refusal> {
     refuse_if(text.len() > MAX_TEXT, 8, 0)?;
     check_form(text)?;
-    let tokens = tokens(text);
-    check_sizes(&tokens)?;
-    Ok(draw(&tokens))
+    draw(&tokens(text))
 }
 
 /// What the text needs: its verbs and coordinates, without room or the limit on verbs.

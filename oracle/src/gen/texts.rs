@@ -12,7 +12,7 @@ pub fn read(rng: &mut Rng) -> ReadCase {
         1 => full_text(rng),
         _ => valid(rng),
     };
-    if rng.one_in(3) {
+    if rng.one_in(2) {
         damage(rng, &mut text);
     }
     let (verb_len, coordinate_len) = lend(rng, &text);
@@ -23,25 +23,40 @@ pub fn read(rng: &mut Rng) -> ReadCase {
     }
 }
 
-/// A text of the form; in some of them numbers may be too large.
+/// A text of the form; in some of them numbers may be too large, or relative ones far from the middle.
 fn valid(rng: &mut Rng) -> Vec<u8> {
     let mut text = Vec::new();
     white(rng, &mut text);
     if rng.one_in(20) {
         return text;
     }
-    let large = rng.one_in(5);
-    let mut letter = b'M';
+    let style = Style {
+        large: rng.one_in(5),
+        whole: rng.one_in(3),
+    };
+    let mut letter = rng.pick(b"MMm");
     for _ in 0..1 + rng.below(6) {
         text.push(letter);
         white(rng, &mut text);
-        if letter == b'M' || letter == b'L' {
-            numbers(rng, &mut text, large);
+        if !matches!(letter, b'Z' | b'z') {
+            numbers(
+                rng,
+                &mut text,
+                matches!(letter, b'M' | b'm' | b'L' | b'l'),
+                style,
+            );
             white(rng, &mut text);
         }
-        letter = rng.pick(b"MLLZZz");
+        letter = rng.pick(b"MmLlLlHhVvZZz");
     }
     text
+}
+
+/// What the numbers of a text are like: whether some may be too large, and whether all are whole.
+#[derive(Clone, Copy)]
+struct Style {
+    large: bool,
+    whole: bool,
 }
 
 /// White space that may be left out.
@@ -57,41 +72,61 @@ fn must_white(rng: &mut Rng, text: &mut Vec<u8>) {
     }
 }
 
-/// One pair or more.
-fn numbers(rng: &mut Rng, text: &mut Vec<u8>, large: bool) {
-    let count = 2 * (1 + rng.pick(&[0, 0, 0, 1, 1, 2, 4]));
-    for i in 0..count {
-        let word = number(rng, large);
+/// One pair or number, or more.
+fn numbers(rng: &mut Rng, text: &mut Vec<u8>, pairs: bool, style: Style) {
+    let count = 1 + rng.pick(&[0, 0, 0, 1, 1, 2, 4]);
+    let mut pointed = false;
+    for i in 0..if pairs { 2 * count } else { count } {
+        let word = number(rng, style);
         if i > 0 {
-            separate(rng, text, word[0]);
+            separate(rng, text, word[0], pointed);
         }
+        pointed = word.contains(&b'.');
         text.extend(word);
     }
 }
 
-/// White space, or one comma with or without white space, or nothing before a sign.
-fn separate(rng: &mut Rng, text: &mut Vec<u8>, next: u8) {
+/// White space, or one comma with or without white space, or nothing before a sign, or before a point
+/// where the number before has one.
+fn separate(rng: &mut Rng, text: &mut Vec<u8>, next: u8, pointed: bool) {
+    let may_touch = next == b'-' || next == b'+' || next == b'.' && pointed;
     match rng.below(4) {
         0 => {
             white(rng, text);
             text.push(b',');
             white(rng, text);
         }
-        1 if next == b'-' || next == b'+' => {}
+        1 | 2 if may_touch => {}
         _ => must_white(rng, text),
     }
 }
 
-/// An optional sign, leading zeros at times, and about the limit where numbers may be large.
-fn number(rng: &mut Rng, large: bool) -> Vec<u8> {
+/// An optional sign, leading zeros at times, about the limit where numbers may be large, and up to six
+/// digits after a point.
+fn number(rng: &mut Rng, style: Style) -> Vec<u8> {
     let sign = rng.pick(&["", "", "", "-", "-", "+"]);
     let zeros = match rng.below(30) {
         0 => "0".repeat(1 + rng.below(25)),
         1 | 2 => "0".to_string(),
         _ => String::new(),
     };
-    let size = if large && rng.one_in(3) {
-        rng.pick(&[
+    let large = style.large && rng.one_in(3);
+    let size = size(rng, large);
+    let fraction = if style.whole || rng.one_in(3) {
+        String::new()
+    } else {
+        fraction(rng)
+    };
+    // Nothing need stand before a point.
+    let bare = !fraction.is_empty() && rng.one_in(3);
+    let size = if bare { String::new() } else { zeros + &size };
+    [sign.as_bytes(), size.as_bytes(), fraction.as_bytes()].concat()
+}
+
+fn size(rng: &mut Rng, large: bool) -> String {
+    if large {
+        let sizes = [
+            "32768",
             "32769",
             "32770",
             "65536",
@@ -101,16 +136,31 @@ fn number(rng: &mut Rng, large: bool) -> Vec<u8> {
             "4294967297",
             "18446744073709551617",
             "340282366920938463463374607431768211457",
-        ])
-        .to_string()
-    } else {
-        match rng.below(8) {
-            0 => rng.pick(&["32768", "32767", "0", "1"]).to_string(),
-            1 => rng.below(32_769).to_string(),
-            _ => rng.below(120).to_string(),
-        }
+        ];
+        return rng.pick(&sizes).to_string();
+    }
+    match rng.below(8) {
+        0 => rng.pick(&["32768", "32767", "0", "1"]).to_string(),
+        1 => rng.below(32_769).to_string(),
+        _ => rng.below(120).to_string(),
+    }
+}
+
+/// A point and digits; in a few texts there is one digit too many, or none.
+fn fraction(rng: &mut Rng) -> String {
+    let places = match rng.below(100) {
+        0 => 7,
+        1 => 0,
+        n => 1 + n % 6,
     };
-    [sign.as_bytes(), zeros.as_bytes(), size.as_bytes()].concat()
+    let digit = |rng: &mut Rng| match rng.below(3) {
+        0 => '0',
+        1 => '5',
+        _ => (b'0' + rng.below(10) as u8) as char,
+    };
+    let mut word = ".".to_string();
+    word.extend((0..places).map(|_| digit(rng)));
+    word
 }
 
 /// One byte changed, removed, put in, or the text cut short.
@@ -118,7 +168,7 @@ fn damage(rng: &mut Rng, text: &mut Vec<u8>) {
     let any = if rng.one_in(3) {
         rng.bits() as u8
     } else {
-        rng.pick(b"MLZz,,+-0 \tmlHVCeE.\0")
+        rng.pick(b"MLZz,,+-0 \tmlhvHVCcSsQqTtAaeE...\0")
     };
     let at = rng.below(text.len() + 1);
     match rng.below(4) {

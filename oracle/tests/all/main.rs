@@ -3,6 +3,7 @@
 #[cfg(lyon_text)]
 mod agreement;
 mod common;
+mod decimal;
 mod facts;
 mod form;
 mod kept;
