@@ -2,15 +2,26 @@
 ghost use mathlib.Core.Path.{_≡_};
 ghost use Rattle.form.specs.Bytes.{classOf};
 
-// What a byte is to a path text. The commands have SVG 2's names.
+// The commands, in either case of their letters: in lower case numbers are relative.
+pub enum Letter {
+    // M and m.
+    Move,
+    // L and l.
+    Line,
+    // H, h, V and v: lines along one axis.
+    Along,
+    // Z and z.
+    Close,
+}
+
+// What a byte is to a path text.
 pub enum Class {
     Blank,
     Comma,
     Sign,
     Digit,
-    MoveTo,
-    LineTo,
-    ClosePath,
+    Dot,
+    Command(Letter),
     Other,
 }
 
@@ -27,9 +38,11 @@ pub fn class_of(b: u8) -> Class
         b' ' | b'\t' | b'\n' | 0x0C | b'\r' => Class::Blank,
         b',' => Class::Comma,
         b'+' | b'-' => Class::Sign,
-        b'M' => Class::MoveTo,
-        b'L' => Class::LineTo,
-        b'Z' | b'z' => Class::ClosePath,
+        b'.' => Class::Dot,
+        b'M' | b'm' => Class::Command(Letter::Move),
+        b'L' | b'l' => Class::Command(Letter::Line),
+        b'H' | b'h' | b'V' | b'v' => Class::Command(Letter::Along),
+        b'Z' | b'z' => Class::Command(Letter::Close),
         _ => Class::Other,
     }
 }

@@ -2,7 +2,7 @@
 use mathlib.Core.Logic.{inl, inr, ⊎-elim}
 use native.Mathlib.Omega.{arith}
 use Rattle.form.specs.Bytes.{classOf}
-use Rattle.form.proofs.Bytes.{tab-or-feed, feed-or-return, sign-class, close-class, digit-class, other-class}
+use Rattle.form.proofs.Bytes.{tab-or-feed, feed-or-return, sign-class, move-class, line-class, along-class, close-class, digit-class, other-class}
 use Rattle.form.proofs.classes.class_of.Statement.{statement}
 use Rattle.form.proofs.classes.class_of.Tie as tie
 
@@ -21,33 +21,39 @@ unfolding classOf
 returns-4 c = rw (c .match .keys4)
 
 returns-5 : tie.Need-returns-5
-unfolding classOf
-returns-5 c = rw (c .match .keys5)
+returns-5 c = move-class _ (c .match .keys5)
 
 returns-6 : tie.Need-returns-6
-returns-6 c = close-class _ (c .match .keys6)
+returns-6 c = line-class _ (c .match .keys6)
 
 returns-7 : tie.Need-returns-7
-returns-7 c = other-class _ (inr (omega arith)) (c .before .match .rest) (omega arith) (omega arith) (omega arith) (omega arith)
+returns-7 c = along-class _ (c .match .keys7)
 
 returns-8 : tie.Need-returns-8
-returns-8 c = other-class _ (inr (omega arith)) (c .before .before .before .match .rest) (omega arith) (omega arith) (omega arith) (omega arith)
+returns-8 c = close-class _ (c .match .keys8)
 
 returns-9 : tie.Need-returns-9
-returns-9 c =
-    let at-match = c .before .before .before .before in
+returns-9 c = other-class _ (inr (omega arith)) (c .before .match .rest) (omega arith) (omega arith) (omega arith) (omega arith)
+
+returns-10 : tie.Need-returns-10
+returns-10 c = other-class _ (inr (omega arith)) (c .before .before .before .match .rest) (omega arith) (omega arith) (omega arith) (omega arith)
+
+returns-11 : tie.Need-returns-11
+returns-11 c =
+    let at-before = c .before .before .before in
+    let at-match = at-before .before in
     let no-digit = ⊎-elim (λ w. inl (w .1 .left)) (λ w. inr (w .left)) (at-match .before .if1 .came) in
     other-class _ no-digit (at-match .match .rest) (omega arith) (omega arith) (omega arith) (omega arith)
 
-returns-10 : tie.Need-returns-10
-unfolding classOf
-returns-10 c = rw (c .match .keys1)
-
-returns-11 : tie.Need-returns-11
-returns-11 c = tab-or-feed _ (c .before .if3 .left) (c .if4 .taken)
-
 returns-12 : tie.Need-returns-12
-returns-12 c = feed-or-return _ (c .before .if5 .left) (c .if6 .taken)
+unfolding classOf
+returns-12 c = rw (c .match .keys1)
+
+returns-13 : tie.Need-returns-13
+returns-13 c = tab-or-feed _ (c .before .if3 .left) (c .if4 .taken)
+
+returns-14 : tie.Need-returns-14
+returns-14 c = feed-or-return _ (c .before .if5 .left) (c .if6 .taken)
 
 pub class-of-spec : {M : Type 1} → statement M
 class-of-spec =
@@ -64,4 +70,6 @@ class-of-spec =
     returns-9
     returns-10
     returns-11
-    returns-12)
+    returns-12
+    returns-13
+    returns-14)

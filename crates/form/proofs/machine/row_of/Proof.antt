@@ -57,50 +57,32 @@ enum-told-9 c = search needs
 cells-requires-9 : tie.Need-cells-requires-9
 cells-requires-9 c κs = search needs
 
-enum-told-10 : tie.Need-enum-told-10
-enum-told-10 c = search needs
-
-cells-requires-10 : tie.Need-cells-requires-10
-cells-requires-10 c κs = search needs
-
-enum-told-11 : tie.Need-enum-told-11
-enum-told-11 c = search needs
-
-cells-requires-11 : tie.Need-cells-requires-11
-cells-requires-11 c κs = search needs
-
 returns : tie.Need-returns
-returns c = rw (c .before .enum-told .given .1) (c .cells .ensures)
+returns c = rw (c .before .enum-told .given .1, c .cells .ensures)
 
 returns-2 : tie.Need-returns-2
-returns-2 c = rw (c .before .enum-told2 .given .1) (c .cells2 .ensures)
+returns-2 c = rw (c .before .enum-told2 .given .1, c .cells2 .ensures)
 
 returns-3 : tie.Need-returns-3
-returns-3 c = rw (c .before .enum-told3 .given .1) (c .cells3 .ensures)
+returns-3 c = rw (c .before .enum-told3 .given .1, c .cells3 .ensures)
 
 returns-4 : tie.Need-returns-4
-returns-4 c = rw (c .before .enum-told4 .given .1) (c .cells4 .ensures)
+returns-4 c = rw (c .before .enum-told4 .given .1, c .cells4 .ensures)
 
 returns-5 : tie.Need-returns-5
-returns-5 c = rw (c .before .enum-told5 .given .1) (c .cells5 .ensures)
+returns-5 c = rw (c .before .enum-told5 .given .1, c .cells5 .ensures)
 
 returns-6 : tie.Need-returns-6
-returns-6 c = rw (c .before .enum-told6 .given .1) (c .cells6 .ensures)
+returns-6 c = rw (c .before .enum-told6 .given .1, c .cells6 .ensures)
 
 returns-7 : tie.Need-returns-7
-returns-7 c = rw (c .before .enum-told7 .given .1) (c .cells7 .ensures)
+returns-7 c = rw (c .before .enum-told7 .given .1, c .cells7 .ensures)
 
 returns-8 : tie.Need-returns-8
-returns-8 c = rw (c .before .enum-told8 .given .1) (c .cells8 .ensures)
+returns-8 c = rw (c .before .enum-told8 .given .1, c .cells8 .ensures)
 
 returns-9 : tie.Need-returns-9
-returns-9 c = rw (c .before .enum-told9 .given .1) (c .cells9 .ensures)
-
-returns-10 : tie.Need-returns-10
-returns-10 c = rw (c .before .enum-told10 .given .1) (c .cells10 .ensures)
-
-returns-11 : tie.Need-returns-11
-returns-11 c = rw (c .before .enum-told11 .given .1) (c .cells11 .ensures)
+returns-9 c = rw (c .before .enum-told9 .given .1, c .cells9 .ensures)
 
 pub row-of-spec : {M : Type 1} → statement M
 row-of-spec =
@@ -124,10 +106,6 @@ row-of-spec =
     cells-requires-8
     enum-told-9
     cells-requires-9
-    enum-told-10
-    cells-requires-10
-    enum-told-11
-    cells-requires-11
     returns
     returns-2
     returns-3
@@ -136,6 +114,4 @@ row-of-spec =
     returns-6
     returns-7
     returns-8
-    returns-9
-    returns-10
-    returns-11)
+    returns-9)
