@@ -1,233 +1,351 @@
--- The bytes of a text of the form call for what the text means: one law for each part of the form, from each mode in which it may begin.
--- Assumes nothing.
-use Prim.Native.Nat.{ℕ, _+_, _-_, _*_, _≤_}
-use mathlib.Core.Path.{_≡_, refl, sym, ap, _∙_}
-use mathlib.Core.Bool.{Bool, true, false, cond}
+-- The bytes of a text of the form call for what the text means: one law for each part of the form, for every axis at once. Assumes nothing.
+use Prim.Native.Nat.{ℕ, suc, _+_, _-_, _≤_}
+use mathlib.Core.Path.{_≡_, refl, ap, _∙_}
+use mathlib.Core.Bool.{Bool, true, false, cond, _||_}
 use mathlib.Core.List.{List, [], _∷_}
 use native.Mathlib.Omega.{arith}
-use native.Mathlib.Decide.{decLe}
-use lib.Dec.{ltb, eqb}
-use borrow.Author.Tests.{lt-ltb, le-ltb}
+use borrow.Author.Tests.{lt-ltb}
+use lib.Dec.{eqb}
 use lib.ListN.{length}
+use lib.Ieee.{Float}
+use Rattle.decimals.specs.Decimals.{valueOf}
+use Rattle.decimals.specs.Digits.{digitOf, wholeCap, fractionCap, millionthsOf, beyondOf, keptDigits, keptOf}
 use Rattle.form.specs.declared.classes.Class.{Class}
-use Rattle.form.specs.declared.classes.Class.the-variants.{Blank, Sign, Digit}
+use Rattle.form.specs.declared.classes.Class.the-variants.{Blank, Comma, Sign, Digit, Dot, Command}
+use Rattle.form.specs.declared.classes.Letter.{Letter}
+use Rattle.form.specs.declared.classes.Letter.the-variants.{Move, Line, Along, Close}
+use Rattle.form.specs.declared.machine.Axis.{Axis}
+use Rattle.form.specs.declared.machine.Axis.the-variants.{X, Y, Alone}
 use Rattle.form.specs.declared.machine.Mode.{Mode}
-use Rattle.form.specs.declared.machine.Mode.the-variants.{Start, Closed, WantX, DigitY, GapY}
-use Rattle.form.specs.declared.machine.Part.{Part}
-use Rattle.form.specs.declared.machine.Part.the-variants.{No, X, Y}
+use Rattle.form.specs.declared.machine.Stage.the-variants.{Closed, Want, Signed, Whole, Pointed, Gap, Lost}
+use Rattle.form.specs.Form.{Byte, Blanks, Digits, bytes, Places, places, Tail, none, point, tail, Decimal, digits, dotted, decimal, Number, bare, signed, number, tailPoint, decimalPoint, hasPoint, Next}
+use Rattle.form.specs.Form.{spaced, parted, joined, abutted, next, numberOf, More, stop, more, numbers, Points, points, Drawing, move, line, along, close, commands, Text, empty, drawn, text}
+use Rattle.form.specs.Machine.{at, deep, start, rowOf, endsPoint, endsBefore, anyLetter}
+use Rattle.form.specs.Machine as form
+use Rattle.form.proofs.Taken.{never, tailMode, decimalMode, numberMode}
 use Rattle.values.specs.declared.events.Event.{Event}
-use Rattle.values.specs.declared.events.Event.the-variants.{Nothing, Begin, Line, EndOpen, EndClosed, Beyond}
+use Rattle.values.specs.declared.events.Event.the-variants.{EndOpen}
 use Rattle.values.specs.declared.known.Known.{Known}
-use Rattle.form.specs.Form.{Byte, Blanks, Digits, bytes, Number, bare, signed, number, Next, spaced, parted, joined, next, Pair, pairs, Points, points, Command, move, line, close, commands, Text, empty, drawn, text}
-use Rattle.form.specs.Machine.{rowOf, nextOf}
-use Rattle.form.proofs.Taken.{Wants, Follows, after-x, after-y}
-use Rattle.values.specs.Numbers.{numberLimit, kept, grownOf, endingOf, valueOf}
-use Rattle.values.specs.Known.{withNumber, withFresh, settledOf, digitTaken, takenOf}
-use Rattle.values.specs.Events.{put, beyondOf, pointOf}
-use Rattle.values.specs.State.{calledBy, inTurn, eventsFrom}
-use Rattle.values.specs.Meaning.{whole, sizeOf, minusOf, floatOf, numberOf, lineEvents, pointEvents, commandEvents, eventsOf}
+use Rattle.values.specs.declared.pen.Pen.{Pen}
+use Rattle.values.specs.Known.{nothingKnown, withPen, takenOf}
+use Rattle.values.specs.Events.{put, numberAt, commandOf}
+use Rattle.values.specs.Pen.{isOutside, coordOf, placedOf, letteredOf}
+use Rattle.values.specs.State.{settleOf, settleIf, calledBy, inTurn, eventsFrom}
+use Rattle.values.specs.Meaning.{tailDigits, wholeDigits, fractionDigits, sizeOf, minusOf, numberFloat, placedBy, numberEvents, moreEvents, pointEvents, commandEvents, eventsOf}
+use Rattle.values.proofs.Exact.{placesOf, places-is, judged-number, float-is}
 
-pub cap-step : (a d : ℕ) → kept (10 * kept a + d) ≡ kept (10 * a + d)
-cap-step a d = omega arith
-
-zero-cap : (d : ℕ) → kept (10 * 0 + d) ≡ kept d
-zero-cap d = omega arith
-
-pub cap-test : (a : ℕ) → ltb numberLimit (kept a) ≡ ltb numberLimit a
-cap-test a = go (decLe a 32768)
-  where
-    go : Dec (a ≤ 32768) → ltb numberLimit (kept a) ≡ ltb numberLimit a
-    go (yes h) = le-ltb numberLimit (kept a) (omega arith) ∙ sym (le-ltb numberLimit a h)
-    go (no h) = lt-ltb numberLimit (kept a) (omega arith) ∙ sym (lt-ltb numberLimit a (omega arith))
+abbrev known : Pen → Bool → ℕ → ℕ → ℕ → Known
+known p g w f i = record { pen = p; minus = g; whole = w; fraction = f; place = i }
 
 module _ (n : ℕ) where
   -- the state in its two parts
   abbrev run : Mode → Known → List ℕ → List Event
   run m v s = eventsFrom n (record { mode = m; known = v }) s
 
-  abbrev told : Mode → Known → Class → List Event → List Event
-  told m v k es = inTurn (calledBy (record { mode = m; known = v }) k) es
+  abbrev told : Mode → Known → Class → List ℕ → List ℕ → List Event → List Event
+  told m v k s r es = inTurn (calledBy (record { mode = m; known = v }) k (n - length s) (n - length r)) es
 
-  abbrev after : Mode → Known → ℕ → Class → ℕ → Known
-  after m v b k place = takenOf (rowOf m .going) b k place (settledOf (endingOf (rowOf m .part) k) v)
+  abbrev then : Mode → Known → ℕ → Class → ℕ → Known
+  then m v b k place = takenOf (rowOf (m .stage) .going) b k place (settleIf (endsBefore (rowOf (m .stage) .going) k) m v place .known)
 
-  -- a byte of a known class, which leads to the mode m′
-  into : {k : Class} (m : Mode) {m′ : Mode} → nextOf m k ≡ m′ → (v : Known) (b : Byte k) (r : List ℕ)
-      → run m v (b .code ∷ r) ≡ told m v k (run m′ (after m v (b .code) k (n - length (b .code ∷ r))) r)
-  into {k} m e v b r =
-      ap (λ k. told m v k (run (nextOf m k) (after m v (b .code) k (n - length (b .code ∷ r))) r)) (b .kind)
-      ∙ ap (λ x. told m v k (run x (after m v (b .code) k (n - length (b .code ∷ r))) r)) e
+  -- a byte of a known class
+  into : {k : Class} (m : Mode) (v : Known) (b : Byte k) (r : List ℕ)
+      → run m v (b .code ∷ r) ≡ told m v k (b .code ∷ r) r (run (form.nextOf m k) (then m v (b .code) k (n - length (b .code ∷ r))) r)
+  into m v b r = ap (λ k. told m v k (b .code ∷ r) r (run (form.nextOf m k) (then m v (b .code) k (n - length (b .code ∷ r))) r)) (b .kind)
 
-  -- a number that ends as p calls for this
-  abbrev ended : Part → Known → List Event → List Event
-  ended p v es = put (beyondOf p v) (put (pointOf p v) es)
+  -- white space
+  blanks-start : (v : Known) (bs : Blanks) (r : List ℕ) → run start v (bytes bs r) ≡ run start v r
+  blanks-start v [] r = refl
+  blanks-start v (b ∷ bs) r = into start v b (bytes bs r) ∙ blanks-start v bs r
 
-  -- which is nothing where none does
-  quiet : (m : Mode) → rowOf m .part ≡ No → (f : Known → List Event) (v : Known) → ended (rowOf m .part) v (f (settledOf (rowOf m .part) v)) ≡ f v
-  quiet m none f v = ap (λ p. ended p v (f (settledOf p v))) none
+  blanks-closed : (v : Known) (bs : Blanks) (r : List ℕ) → run (at Closed X) v (bytes bs r) ≡ run (at Closed X) v r
+  blanks-closed v [] r = refl
+  blanks-closed v (b ∷ bs) r = into (at Closed X) v b (bytes bs r) ∙ blanks-closed v bs r
 
-  blanks : (m : Mode) → rowOf m .part ≡ No → nextOf m Blank ≡ m → (v : Known) (bs : Blanks) (r : List ℕ) → run m v (bytes bs r) ≡ run m v r
-  blanks m none same v [] r = refl
-  blanks m none same v (b ∷ bs) r = into m same v b (bytes bs r) ∙ quiet m none (λ u. run m u (bytes bs r)) v ∙ blanks m none same v bs r
+  blanks-want : (a : Axis) (v : Known) (bs : Blanks) (r : List ℕ) → run (at Want a) v (bytes bs r) ≡ run (at Want a) v r
+  blanks-want a v [] r = refl
+  blanks-want a v (b ∷ bs) r = into (at Want a) v b (bytes bs r) ∙ blanks-want a v bs r
 
-  -- what is known once a number is read, r following it
-  abbrev read : Known → Number → List ℕ → Known
-  read v m r = withNumber v (minusOf m) (kept (sizeOf m)) (n - length (number m r))
+  blanks-gap : (a : Axis) (v : Known) (bs : Blanks) (r : List ℕ) → run (at Gap (form.after a)) v (bytes bs r) ≡ run (at Gap (form.after a)) v r
+  blanks-gap a v [] r = refl
+  blanks-gap a v (b ∷ bs) r = into (at Gap (form.after a)) v b (bytes bs r) ∙ blanks-gap a v bs r
 
-  module _ {m s d : Mode} (w : Wants m s d) (v : Known) where
-    digits : (g : Bool) (i a : ℕ) (ds : Digits) (r : List ℕ) → run d (withNumber v g (kept a) i) (bytes ds r) ≡ run d (withNumber v g (kept (whole a ds)) i) r
-    digits g i a [] r = refl
-    digits g i a (e ∷ ds) r =
-        let u = withNumber v g (kept a) i in
-        into d (w .again) u e (bytes ds r)
-        ∙ ap (λ t. run d (digitTaken t (e .code) (n - length (e .code ∷ bytes ds r)) u) (bytes ds r)) (w .going)
-        ∙ ap (λ z. run d (withNumber v g z i) (bytes ds r)) (cap-step a (e .code - 48))
-        ∙ digits g i (10 * a + (e .code - 48)) ds r
+  -- the digits of a number
+  module _ (a : Axis) (p : Pen) (g : Bool) (i : ℕ) where
+    whole-run : (w f : ℕ) (ds : Digits) (r : List ℕ) → run (at Whole a) (known p g w f i) (bytes ds r) ≡ run (at Whole a) (known p g (keptDigits wholeCap w (bytes ds [])) f i) r
+    whole-run w f [] r = refl
+    whole-run w f (d ∷ ds) r = into (at Whole a) (known p g w f i) d (bytes ds r) ∙ whole-run (digitOf wholeCap w (d .code)) f ds r
 
-    -- after the first digit
-    first-digit : (g : Bool) (i : ℕ) (e : Byte Digit) (ds : Digits) (r : List ℕ)
-        → run d (withNumber v g (grownOf 0 (e .code)) i) (bytes ds r) ≡ run d (withNumber v g (kept (whole (e .code - 48) ds)) i) r
-    first-digit g i e ds r = ap (λ z. run d (withNumber v g z i) (bytes ds r)) (zero-cap (e .code - 48)) ∙ digits g i (e .code - 48) ds r
+    deep-run : (k w f : ℕ) (ds : Digits) → k + length ds ≤ 6 → (r : List ℕ)
+        → run (deep a k) (known p g w f i) (bytes ds r) ≡ run (deep a (k + length ds)) (known p g w (keptDigits fractionCap f (bytes ds [])) i) r
+    deep-run k w f [] h r = ap (λ j. run (deep a j) (known p g w f i) r) (let e : k ≡ k + 0 = omega arith in e)
+    deep-run k w f (d ∷ ds) h r =
+        let u = known p g w (digitOf fractionCap f (d .code)) i in
+        into (deep a k) (known p g w f i) d (bytes ds r)
+        ∙ ap (λ t. run (cond t (deep a (k + 1)) (at Lost a)) u (bytes ds r)) (lt-ltb k 6 (omega arith))
+        ∙ deep-run (k + 1) w (digitOf fractionCap f (d .code)) ds (omega arith) r
+        ∙ ap (λ j. run (deep a j) (known p g w (keptDigits fractionCap (digitOf fractionCap f (d .code)) (bytes ds [])) i) r) (let e : k + 1 + length ds ≡ k + suc (length ds) = omega arith in e)
 
-    after-sign : (c : Byte Sign) (e : Byte Digit) (ds : Digits) (r : List ℕ)
-        → run s (withNumber v (eqb (c .code) 45) 0 (n - length (number (signed c e ds) r))) (e .code ∷ bytes ds r) ≡ run d (read v (signed c e ds) r) r
-    after-sign c e ds r =
-        let g = eqb (c .code) 45 in
-        let i = n - length (number (signed c e ds) r) in
-        into s (w .after) (withNumber v g 0 i) e (bytes ds r)
-        ∙ ap (λ t. run d (digitTaken t (e .code) (n - length (e .code ∷ bytes ds r)) (withNumber v g 0 i)) (bytes ds r)) (w .begun)
-        ∙ first-digit g i e ds r
+    places-run : (w : ℕ) (ds : Places) (r : List ℕ)
+        → run (at Pointed a) (known p g w 0 i) (places ds r) ≡ run (deep a (1 + length (ds .others))) (known p g w (keptDigits fractionCap 0 (places ds [])) i) r
+    places-run w ds r =
+        into (at Pointed a) (known p g w 0 i) (ds .first) (bytes (ds .others) r)
+        ∙ deep-run 1 w (digitOf fractionCap 0 (ds .first .code)) (ds .others) (omega (arith, ds .few)) r
 
-    whole-number : (a : Number) (r : List ℕ) → run m v (number a r) ≡ run d (read v a r) r
-    whole-number (bare e ds) r =
-        let i = n - length (number (bare e ds) r) in
-        into m (w .digit) v e (bytes ds r)
-        ∙ ap (λ t. run d (digitTaken t (e .code) i v) (bytes ds r)) (w .fresh)
-        ∙ first-digit false i e ds r
-    whole-number (signed c e ds) r =
-        let i = n - length (number (signed c e ds) r) in
-        into m (w .sign) v c (e .code ∷ bytes ds r)
-        ∙ quiet m (w .none) (λ u. run s (withNumber u (eqb (c .code) 45) 0 i) (e .code ∷ bytes ds r)) v
-        ∙ after-sign c e ds r
+    tail-run : (w : ℕ) (t : Tail) (r : List ℕ) → run (at Whole a) (known p g w 0 i) (tail t r) ≡ run (tailMode a t) (known p g w (keptDigits fractionCap 0 (tailDigits t)) i) r
+    tail-run w none r = refl
+    tail-run w (point q ds) r = into (at Whole a) (known p g w 0 i) q (places ds r) ∙ places-run w ds r
 
-  -- the number after one that ends in the mode d
-  module _ {d b c s e : Mode} (f : Follows d b c s e) (v : Known) where
-    abbrev u : Known
-    u = settledOf (rowOf d .part) v
+    digits-run : (d : Byte Digit) (ds : Digits) (t : Tail) (r : List ℕ)
+        → run (at Whole a) (known p g (digitOf wholeCap 0 (d .code)) 0 i) (bytes ds (tail t r))
+        ≡ run (tailMode a t) (known p g (keptDigits wholeCap 0 (d .code ∷ bytes ds [])) (keptDigits fractionCap 0 (tailDigits t)) i) r
+    digits-run d ds t r =
+        whole-run (digitOf wholeCap 0 (d .code)) 0 ds (tail t r) ∙ tail-run (keptDigits wholeCap (digitOf wholeCap 0 (d .code)) (bytes ds [])) t r
 
-    abbrev passed : List Event → List Event
-    passed es = ended (rowOf d .part) v es
+    -- behind a sign
+    signed-run : (d : Decimal) (r : List ℕ)
+        → run (at Signed a) (known p g 0 0 i) (decimal d r) ≡ run (decimalMode a d) (known p g (keptDigits wholeCap 0 (wholeDigits d)) (keptDigits fractionCap 0 (fractionDigits d)) i) r
+    signed-run (digits d ds t) r = into (at Signed a) (known p g 0 0 i) d (bytes ds (tail t r)) ∙ digits-run d ds t r
+    signed-run (dotted q ds) r = into (at Signed a) (known p g 0 0 i) q (places ds r) ∙ places-run 0 ds r
 
-    wanted : (cs : Blanks) (a : Number) (r : List ℕ) → run c u (bytes cs (number a r)) ≡ run e (read u a r) r
-    wanted cs a r = blanks c (f .want .none) (f .comma-blanks) u cs (number a r) ∙ whole-number (f .want) u a r
+  -- a number whole, r following it
+  abbrev readBehind : Pen → Number → List ℕ → Known
+  readBehind p m r = known p (minusOf m) (keptDigits wholeCap 0 (wholeDigits (sizeOf m))) (keptDigits fractionCap 0 (fractionDigits (sizeOf m))) (n - length (number m r))
 
-    next-number : (a : Next) (r : List ℕ) → run d v (next a r) ≡ passed (run e (read u (numberOf a) r) r)
-    next-number (spaced k ks a) r =
-        into d (f .blank) v k (bytes ks (number a r))
-        ∙ ap (λ es. passed es) (blanks b (f .gap .none) (f .blanks) u ks (number a r) ∙ whole-number (f .gap) u a r)
-    next-number (parted [] k cs a) r = into d (f .comma) v k (bytes cs (number a r)) ∙ ap (λ es. passed es) (wanted cs a r)
-    next-number (parted (l ∷ ls) k cs a) r =
-        into d (f .blank) v l (bytes ls (k .code ∷ bytes cs (number a r)))
-        ∙ ap (λ es. passed es)
-        (blanks b (f .gap .none) (f .blanks) u ls (k .code ∷ bytes cs (number a r))
-        ∙ into b (f .blank-comma) u k (bytes cs (number a r))
-        ∙ quiet b (f .gap .none) (λ x. run c x (bytes cs (number a r))) u
-        ∙ wanted cs a r)
-    next-number (joined k l ls) r = into d (f .sign) v k (l .code ∷ bytes ls r) ∙ ap (λ es. passed es) (after-sign (f .want) u k l ls r)
+  want-run : (a : Axis) (v : Known) (m : Number) (r : List ℕ) → run (at Want a) v (number m r) ≡ run (numberMode a m) (readBehind (v .pen) m r) r
+  want-run a v (bare (digits d ds t)) r =
+      into (at Want a) v d (bytes ds (tail t r)) ∙ digits-run a (v .pen) false (n - length (number (bare (digits d ds t)) r)) d ds t r
+  want-run a v (bare (dotted q ds)) r = into (at Want a) v q (places ds r) ∙ places-run a (v .pen) false (n - length (number (bare (dotted q ds)) r)) 0 ds r
+  want-run a v (signed g d) r = into (at Want a) v g (decimal d r) ∙ signed-run a (v .pen) (eqb (g .code) 45) (n - length (number (signed g d) r)) d r
 
-  -- two numbers, by what is kept of their sizes and by their sizes
-  large : (a b i j : ℕ) (es : List Event)
-      → put (cond (ltb numberLimit (kept a)) (Beyond i) Nothing) (put (cond (ltb numberLimit (kept b)) (Beyond j) Nothing) es)
-      ≡ put (cond (ltb numberLimit a) (Beyond i) Nothing) (put (cond (ltb numberLimit b) (Beyond j) Nothing) es)
-  large a b i j es =
-      ap (λ t. put (cond t (Beyond i) Nothing) (put (cond (ltb numberLimit (kept b)) (Beyond j) Nothing) es)) (cap-test a)
-      ∙ ap (λ t. put (cond (ltb numberLimit a) (Beyond i) Nothing) (put (cond t (Beyond j) Nothing) es)) (cap-test b)
+  gap-run : (a : Axis) (v : Known) (m : Number) (r : List ℕ) → run (at Gap (form.after a)) v (number m r) ≡ run (numberMode (form.after a) m) (readBehind (v .pen) m r) r
+  gap-run a v (bare (digits d ds t)) r =
+      into (at Gap (form.after a)) v d (bytes ds (tail t r)) ∙ digits-run (form.after a) (v .pen) false (n - length (number (bare (digits d ds t)) r)) d ds t r
+  gap-run a v (bare (dotted q ds)) r = into (at Gap (form.after a)) v q (places ds r) ∙ places-run (form.after a) (v .pen) false (n - length (number (bare (dotted q ds)) r)) 0 ds r
+  gap-run a v (signed g d) r = into (at Gap (form.after a)) v g (decimal d r) ∙ signed-run (form.after a) (v .pen) (eqb (g .code) 45) (n - length (number (signed g d) r)) d r
 
-  -- the commands to come, inside a run or behind one, by what is known
-  abbrev calls : Bool → Known → List Command → List Event
-  calls inside v cs = commandEvents n inside (v .«first_x») (v .«first_y») cs
+  -- a number of an axis with k digits after its point ends where s follows
+  abbrev settled : Axis → ℕ → Known → Known
+  settled a k v = settleOf (deep a k) v 0 .known
 
-  -- from each mode in which one may begin
-  record Claim (cs : List Command) : Type 0 where
-    gap : (v : Known) → run GapY v (commands cs []) ≡ calls true v cs
-    closed : (v : Known) → run Closed v (commands cs []) ≡ calls false v cs
-    digit : (v : Known) → run DigitY v (commands cs []) ≡ ended Y v (calls true (settledOf Y v) cs)
+  abbrev over : Axis → ℕ → Known → List ℕ → List Event → List Event
+  over a k v s es = put (settleOf (deep a k) v (n - length s) .event) es
 
-  module _ (cs : List Command) (claim : Claim cs) where
-    tail : (bs : Blanks) (v : Known) → run DigitY v (bytes bs (commands cs [])) ≡ ended Y v (calls true (settledOf Y v) cs)
-    tail [] v = claim .digit v
-    tail (b ∷ bs) v =
-        let u = settledOf Y v in
-        into DigitY refl v b (bytes bs (commands cs [])) ∙ ap (λ es. ended Y v es) (blanks GapY refl refl u bs (commands cs []) ∙ claim .gap u)
+  -- a mode in which it may end, by what ends it
+  record Settles (a : Axis) (h : Bool) (k : ℕ) (m : Mode) : Type 0 where
+    blank : (v : Known) (b : Byte Blank) (s : List ℕ) → run m v (b .code ∷ s) ≡ over a k v (b .code ∷ s) (run (at Gap (form.after a)) (settled a k v) s)
+    comma : (v : Known) (b : Byte Comma) (s : List ℕ) → run m v (b .code ∷ s) ≡ over a k v (b .code ∷ s) (run (at Want (form.after a)) (settled a k v) s)
+    sign : (v : Known) (b : Byte Sign) (s : List ℕ)
+        → run m v (b .code ∷ s) ≡ over a k v (b .code ∷ s) (run (at Signed (form.after a)) (known (settled a k v .pen) (eqb (b .code) 45) 0 0 (n - length (b .code ∷ s))) s)
+    dot : h ≡ true → (v : Known) (b : Byte Dot) (s : List ℕ)
+        → run m v (b .code ∷ s) ≡ over a k v (b .code ∷ s) (run (at Pointed (form.after a)) (known (settled a k v .pen) false 0 0 (n - length (b .code ∷ s))) s)
+    letter : endsPoint a ≡ true → (v : Known) {l : Letter} (b : Byte (Command l)) (s : List ℕ)
+        → run m v (b .code ∷ s)
+        ≡ over a k v (b .code ∷ s) (put (commandOf true (v .pen) l (n - length s)) (run (anyLetter l) (withPen (settled a k v) (letteredOf (settled a k v .pen) l (b .code))) s))
+    end : endsPoint a ≡ true → (v : Known) → run m v [] ≡ over a k v [] (EndOpen (n + 1) ∷ [])
 
-    module _ (bs : Blanks) where
-      abbrev R : List ℕ
-      R = bytes bs (commands cs [])
+  -- at the end of the text nothing follows
+  end-place : (a : Axis) (k : ℕ) (v : Known) → put (settleOf (deep a k) v n .event) (EndOpen (n + 1) ∷ []) ≡ over a k v [] (EndOpen (n + 1) ∷ [])
+  end-place a k v = ap (λ i. put (settleOf (deep a k) v i .event) (EndOpen (n + 1) ∷ [])) (let e : n ≡ n - 0 = omega arith in e)
 
-      more : (ps : List Pair) (v : Known) → run DigitY v (pairs ps R) ≡ ended Y v (lineEvents n ps R (calls true (settledOf Y v) cs))
-      more [] v = tail bs v
-      more (p ∷ ps) v =
-          let nx = numberOf (p .x) in
-          let ny = numberOf (p .y) in
-          let s = next (p .y) (pairs ps R) in
-          let u = read (settledOf Y v) nx s in
-          let w = read (settledOf X u) ny (pairs ps R) in
-          next-number after-y v (p .x) s
-          ∙ ap (λ es. ended Y v es)
-          (next-number after-x u (p .y) (pairs ps R)
-          ∙ ap (λ es. ended X u es) (more ps w)
-          ∙ large (sizeOf nx) (sizeOf ny) (u .place) (w .place) (Line (floatOf nx) (floatOf ny) ∷ lineEvents n ps R (calls true (settledOf Y v) cs)))
+  whole-letter : (a : Axis) → endsPoint a ≡ true → (v : Known) {l : Letter} (b : Byte (Command l)) (s : List ℕ)
+      → run (at Whole a) v (b .code ∷ s)
+      ≡ over a 0 v (b .code ∷ s) (put (commandOf true (v .pen) l (n - length s)) (run (anyLetter l) (withPen (settled a 0 v) (letteredOf (settled a 0 v .pen) l (b .code))) s))
+  whole-letter X e v b s = absurd (never e)
+  whole-letter Y e v b s = into (at Whole Y) v b s
+  whole-letter Alone e v b s = into (at Whole Alone) v b s
 
-      first : (p : Points) (v : Known)
-          → run WantX v (points p R)
-          ≡ pointEvents n (λ x y. cond (v .fresh) (Begin x y) (Line x y)) p R
-          (commandEvents n true (cond (v .fresh) (floatOf (p .x)) (v .«first_x»)) (cond (v .fresh) (floatOf (numberOf (p .y))) (v .«first_y»)) cs)
-      first p v =
-          let nx = p .x in
-          let ny = numberOf (p .y) in
-          let s = next (p .y) (pairs (p .more) R) in
-          let u = read v nx s in
-          let w = read (settledOf X u) ny (pairs (p .more) R) in
-          blanks WantX refl refl v (p .lead) (number nx s)
-          ∙ whole-number (after-y .want) v nx s
-          ∙ next-number after-x u (p .y) (pairs (p .more) R)
-          ∙ ap (λ es. ended X u es) (more (p .more) w)
-          ∙ large (sizeOf nx) (sizeOf ny) (u .place) (w .place) (put (pointOf Y w) (lineEvents n (p .more) R (calls true (settledOf Y w) cs)))
+  whole-end : (a : Axis) → endsPoint a ≡ true → (v : Known) → run (at Whole a) v [] ≡ over a 0 v [] (EndOpen (n + 1) ∷ [])
+  whole-end X e v = absurd (never e)
+  whole-end Y e v = end-place Y 0 v
+  whole-end Alone e v = end-place Alone 0 v
 
-  claims : (cs : List Command) → Claim cs
-  claims [] = record { gap = λ v. refl; closed = λ v. refl; digit = λ v. refl }
-  claims (move k p bs ∷ cs) =
-      let begins = first cs (claims cs) bs p in
-      let r = points p (bytes bs (commands cs [])) in
-      record {
-        gap = λ v. into GapY refl v k r ∙ ap (λ es. EndOpen ∷ es) (begins (withFresh v true));
-        closed = λ v. into Closed refl v k r ∙ begins (withFresh v true);
-        digit = λ v. into DigitY refl v k r ∙ ap (λ es. ended Y v (EndOpen ∷ es)) (begins (withFresh (settledOf Y v) true));
-      }
-  claims (line k p bs ∷ cs) =
-      let goes = first cs (claims cs) bs p in
-      let r = points p (bytes bs (commands cs [])) in
-      record {
-        gap = λ v. into GapY refl v k r ∙ goes (withFresh v false);
-        closed = λ v. into Closed refl v k r ∙ ap (λ es. Begin (v .«first_x») (v .«first_y») ∷ es) (goes (withFresh v false));
-        digit = λ v. into DigitY refl v k r ∙ ap (λ es. ended Y v es) (goes (withFresh (settledOf Y v) false));
-      }
-  claims (close k bs ∷ cs) =
-      let r = commands cs [] in
-      let rests : (v : Known) → run Closed v (bytes bs r) ≡ calls false v cs = λ v. blanks Closed refl refl v bs r ∙ claims cs .closed v in
-      record {
-        gap = λ v. into GapY refl v k (bytes bs r) ∙ ap (λ es. EndClosed ∷ es) (rests v);
-        closed = λ v. into Closed refl v k (bytes bs r) ∙ rests v;
-        digit = λ v. into DigitY refl v k (bytes bs r) ∙ ap (λ es. ended Y v (EndClosed ∷ es)) (rests (settledOf Y v));
-      }
+  deep-letter : (k : ℕ) (a : Axis) → endsPoint a ≡ true → (v : Known) {l : Letter} (b : Byte (Command l)) (s : List ℕ)
+      → run (deep a k) v (b .code ∷ s)
+      ≡ over a k v (b .code ∷ s) (put (commandOf true (v .pen) l (n - length s)) (run (anyLetter l) (withPen (settled a k v) (letteredOf (settled a k v .pen) l (b .code))) s))
+  deep-letter k X e v b s = absurd (never e)
+  deep-letter k Y e v b s = into (deep Y k) v b s
+  deep-letter k Alone e v b s = into (deep Alone k) v b s
+
+  deep-end : (k : ℕ) (a : Axis) → endsPoint a ≡ true → (v : Known) → run (deep a k) v [] ≡ over a k v [] (EndOpen (n + 1) ∷ [])
+  deep-end k X e v = absurd (never e)
+  deep-end k Y e v = end-place Y k v
+  deep-end k Alone e v = end-place Alone k v
+
+  whole-settles : (a : Axis) → Settles a false 0 (at Whole a)
+  whole-settles a = record {
+    blank = λ v b s. into (at Whole a) v b s;
+    comma = λ v b s. into (at Whole a) v b s;
+    sign = λ v b s. into (at Whole a) v b s;
+    dot = λ e v b s. absurd (never e);
+    letter = λ e v b s. whole-letter a e v b s;
+    end = whole-end a;
+  }
+
+  deep-settles : (a : Axis) (k : ℕ) → Settles a true k (deep a k)
+  deep-settles a k = record {
+    blank = λ v b s. into (deep a k) v b s;
+    comma = λ v b s. into (deep a k) v b s;
+    sign = λ v b s. into (deep a k) v b s;
+    dot = λ e v b s. into (deep a k) v b s;
+    letter = λ e v b s. deep-letter k a e v b s;
+    end = deep-end k a;
+  }
+
+  tail-settles : (a : Axis) (d : Byte Digit) (ds : Digits) (t : Tail) → Settles a (tailPoint t) (placesOf (digits d ds t)) (tailMode a t)
+  tail-settles a d ds none = whole-settles a
+  tail-settles a d ds (point q fs) = deep-settles a (1 + length (fs .others))
+
+  decimal-settles : (a : Axis) (d : Decimal) → Settles a (decimalPoint d) (placesOf d) (decimalMode a d)
+  decimal-settles a (digits d ds t) = tail-settles a d ds t
+  decimal-settles a (dotted q fs) = deep-settles a (1 + length (fs .others))
+
+  settles : (a : Axis) (m : Number) → Settles a (hasPoint m) (placesOf (sizeOf m)) (numberMode a m)
+  settles a (bare d) = decimal-settles a d
+  settles a (signed g d) = decimal-settles a d
+
+  -- what is read of a number is what it means
+  read-number : (p : Pen) (a : Axis) (m : Number) (s : List ℕ) (es : Pen → List Event)
+      → over a (placesOf (sizeOf m)) (readBehind p m s) s (es (settled a (placesOf (sizeOf m)) (readBehind p m s) .pen)) ≡ numberEvents n p a m s (es (placedBy p a m))
+  read-number p a m s es =
+      let d = sizeOf m in
+      let w = keptDigits wholeCap 0 (wholeDigits d) in
+      let f = keptDigits fractionCap 0 (fractionDigits d) in
+      let i = n - length (number m s) in
+      let j = n - length s in
+      let g = minusOf m in
+      let result : Bool → Float → List Event = λ t c. put (numberAt (t || isOutside (coordOf p a c)) i p (placedOf p a c) a j) (es (placedOf p a c)) in
+      ap (λ k. result (beyondOf (millionthsOf w f k)) (valueOf g (millionthsOf w f k))) (places-is d)
+      ∙ ap (λ c. result (beyondOf (keptOf (wholeDigits d) (fractionDigits d))) c) (float-is m)
+      ∙ ap (λ t. result t (numberFloat m)) (judged-number m)
+
+  -- the next number
+  module _ (a : Axis) (h : Bool) (k : ℕ) (m : Mode) (w : Settles a h k m) (v : Known) where
+    abbrev then-read : Next h → List ℕ → List Event
+    then-read x r = over a k v (next x r) (run (numberMode (form.after a) (numberOf x)) (readBehind (settled a k v .pen) (numberOf x) r) r)
+
+    next-run : (x : Next h) (r : List ℕ) → run m v (next x r) ≡ then-read x r
+    next-run (spaced b bs x) r =
+        w .blank v b (bytes bs (number x r))
+        ∙ ap (λ es. over a k v (b .code ∷ bytes bs (number x r)) es) (blanks-gap a (settled a k v) bs (number x r) ∙ gap-run a (settled a k v) x r)
+    next-run (parted [] c cs x) r =
+        w .comma v c (bytes cs (number x r))
+        ∙ ap (λ es. over a k v (c .code ∷ bytes cs (number x r)) es) (blanks-want (form.after a) (settled a k v) cs (number x r) ∙ want-run (form.after a) (settled a k v) x r)
+    next-run (parted (b ∷ bs) c cs x) r =
+        let u = c .code ∷ bytes cs (number x r) in
+        w .blank v b (bytes bs u)
+        ∙ ap (λ es. over a k v (b .code ∷ bytes bs u) es)
+        (blanks-gap a (settled a k v) bs u ∙ into (at Gap (form.after a)) (settled a k v) c (bytes cs (number x r))
+        ∙ blanks-want (form.after a) (settled a k v) cs (number x r) ∙ want-run (form.after a) (settled a k v) x r)
+    next-run (joined g d) r =
+        w .sign v g (decimal d r)
+        ∙ ap (λ es. over a k v (g .code ∷ decimal d r) es) (signed-run (form.after a) (settled a k v .pen) (eqb (g .code) 45) (n - length (g .code ∷ decimal d r)) d r)
+    next-run (abutted e q ds) r =
+        w .dot e v q (places ds r)
+        ∙ ap (λ es. over a k v (q .code ∷ places ds r) es) (places-run (form.after a) (settled a k v .pen) false (n - length (q .code ∷ places ds r)) 0 ds r)
+
+  -- a text that begins with a command or is at its end, from each mode in which one may begin: its events, inside a run or not
+  record Claim (s : List ℕ) (events : Bool → Pen → List Event) : Type 0 where
+    gap : (a : Axis) → endsPoint a ≡ true → (v : Known) → run (at Gap (form.after a)) v s ≡ events true (v .pen)
+    closed : (v : Known) → run (at Closed X) v s ≡ events false (v .pen)
+    behind : (a : Axis) (h : Bool) (k : ℕ) (m : Mode) → Settles a h k m → endsPoint a ≡ true → (v : Known) → run m v s ≡ over a k v s (events true (settled a k v .pen))
+
+  abbrev Claimed : List Drawing → Type 0
+  Claimed cs = Claim (commands cs []) (λ inside p. commandEvents n inside p cs)
+
+  module _ (cs : List Drawing) (claim : Claimed cs) (bs : Blanks) where
+    abbrev R : List ℕ
+    R = bytes bs (commands cs [])
+
+    abbrev later : Pen → List Event
+    later q = commandEvents n true q cs
+
+    rest-run : (cs' : Blanks) (a : Axis) (h : Bool) (k : ℕ) (m : Mode) → Settles a h k m → endsPoint a ≡ true → (v : Known)
+        → run m v (bytes cs' (commands cs [])) ≡ over a k v (bytes cs' (commands cs [])) (later (settled a k v .pen))
+    rest-run [] a h k m w e v = claim .behind a h k m w e v
+    rest-run (b ∷ ds) a h k m w e v =
+        w .blank v b (bytes ds (commands cs []))
+        ∙ ap (λ es. over a k v (b .code ∷ bytes ds (commands cs [])) es) (blanks-gap a (settled a k v) ds (commands cs []) ∙ claim .gap a e (settled a k v))
+
+    more-run : (a : Axis) (h : Bool) (k : ℕ) (m : Mode) → Settles a h k m → (ms : More a h) (v : Known)
+        → run m v (numbers ms R) ≡ over a k v (numbers ms R) (moreEvents n (settled a k v .pen) ms R later)
+    more-run a h k m w (stop e) v = rest-run bs a h k m w e v
+    more-run a h k m w (more x ms) v =
+        let p = settled a k v .pen in
+        let y = numberOf x in
+        let s = numbers ms R in
+        next-run a h k m w v x s
+        ∙ ap (λ es. over a k v (next x s) es)
+        (more-run (form.after a) (hasPoint y) (placesOf (sizeOf y)) (numberMode (form.after a) y) (settles (form.after a) y) ms (readBehind p y s)
+        ∙ read-number p (form.after a) y s (λ q. moreEvents n q ms R later))
+
+    first-run : (a : Axis) (ps : Points a) (v : Known) → run (at Want a) v (points ps R) ≡ pointEvents n (v .pen) ps R later
+    first-run a ps v =
+        let y = ps .first in
+        let s = numbers (ps .others) R in
+        blanks-want a v (ps .lead) (number y s)
+        ∙ want-run a v y s
+        ∙ more-run a (hasPoint y) (placesOf (sizeOf y)) (numberMode a y) (settles a y) (ps .others) (readBehind (v .pen) y s)
+        ∙ read-number (v .pen) a y s (λ q. moreEvents n q (ps .others) R later)
+
+  -- a letter behind white space
+  gap-letter : (a : Axis) → endsPoint a ≡ true → (v : Known) {l : Letter} (b : Byte (Command l)) (s : List ℕ)
+      → run (at Gap (form.after a)) v (b .code ∷ s) ≡ put (commandOf true (v .pen) l (n - length s)) (run (anyLetter l) (withPen v (letteredOf (v .pen) l (b .code))) s)
+  gap-letter X e v b s = absurd (never e)
+  gap-letter Y e v b s = into (at Gap (form.after Y)) v b s
+  gap-letter Alone e v b s = into (at Gap (form.after Alone)) v b s
+
+  gap-end : (a : Axis) → endsPoint a ≡ true → (v : Known) → run (at Gap (form.after a)) v [] ≡ EndOpen (n + 1) ∷ []
+  gap-end X e v = absurd (never e)
+  gap-end Y e v = refl
+  gap-end Alone e v = refl
+
+  -- inside a run a letter's event does not ask for the pen
+  same-letter : (l : Letter) (p q : Pen) (i : ℕ) → commandOf true p l i ≡ commandOf true q l i
+  same-letter Move p q i = refl
+  same-letter Line p q i = refl
+  same-letter Along p q i = refl
+  same-letter Close p q i = refl
+
+  -- what comes of a letter, from each of them
+  lettered : {l : Letter} (b : Byte (Command l)) (s : List ℕ) (events : Bool → Pen → List Event)
+      → ((inside : Bool) (v : Known) → put (commandOf inside (v .pen) l (n - length s)) (run (anyLetter l) (withPen v (letteredOf (v .pen) l (b .code))) s) ≡ events inside (v .pen))
+      → Claim (b .code ∷ s) events
+  lettered {l} b s events f = record {
+    gap = λ a e v. gap-letter a e v b s ∙ f true v;
+    closed = λ v. into (at Closed X) v b s ∙ f false v;
+    behind = λ a h k m w e v.
+        w .letter e v b s
+        ∙ ap (λ x. over a k v (b .code ∷ s) (put x (run (anyLetter l) (withPen (settled a k v) (letteredOf (settled a k v .pen) l (b .code))) s))) (same-letter l (v .pen) (settled a k v .pen) (n - length s))
+        ∙ ap (λ es. over a k v (b .code ∷ s) es) (f true (settled a k v));
+  }
+
+  claims : (cs : List Drawing) → Claimed cs
+  claims [] = record { gap = gap-end; closed = λ v. refl; behind = λ a h k m w e v. w .end e v }
+  claims (move b ps bs ∷ cs) =
+      let s = points ps (bytes bs (commands cs [])) in
+      lettered b s (λ inside p. commandEvents n inside p (move b ps bs ∷ cs))
+      (λ inside v. ap (λ es. put (commandOf inside (v .pen) Move (n - length s)) es) (first-run cs (claims cs) bs X ps (withPen v (letteredOf (v .pen) Move (b .code)))))
+  claims (line b ps bs ∷ cs) =
+      let s = points ps (bytes bs (commands cs [])) in
+      lettered b s (λ inside p. commandEvents n inside p (line b ps bs ∷ cs))
+      (λ inside v. ap (λ es. put (commandOf inside (v .pen) Line (n - length s)) es) (first-run cs (claims cs) bs X ps (withPen v (letteredOf (v .pen) Line (b .code)))))
+  claims (along b ps bs ∷ cs) =
+      let s = points ps (bytes bs (commands cs [])) in
+      lettered b s (λ inside p. commandEvents n inside p (along b ps bs ∷ cs))
+      (λ inside v. ap (λ es. put (commandOf inside (v .pen) Along (n - length s)) es) (first-run cs (claims cs) bs Alone ps (withPen v (letteredOf (v .pen) Along (b .code)))))
+  claims (close b bs ∷ cs) =
+      let s = bytes bs (commands cs []) in
+      lettered b s (λ inside p. commandEvents n inside p (close b bs ∷ cs))
+      (λ inside v.
+      let u = withPen v (letteredOf (v .pen) Close (b .code)) in
+      ap (λ es. put (commandOf inside (v .pen) Close (n - length s)) es) (blanks-closed u bs (commands cs []) ∙ claims cs .closed u))
 
   -- the machine calls for what the text means
-  pub means : (t : Text) (v : Known) → eventsFrom n (record { mode = Start; known = v }) (text t) ≡ eventsOf n t
-  means (empty bs) v = blanks Start refl refl v bs []
-  means (drawn bs m p cs ds) v =
-      let r = points p (bytes cs (commands ds [])) in
-      blanks Start refl refl v bs (m .code ∷ r) ∙ into Start refl v m r ∙ first ds (claims ds) cs p (withFresh v true)
-
--- a number that is not too large has its own float
-pub exact : (m : Number) → sizeOf m ≤ 32768 → floatOf m ≡ valueOf (minusOf m) (sizeOf m)
-exact m h = ap (λ z. valueOf (minusOf m) z) (let e : kept (sizeOf m) ≡ sizeOf m = omega arith in e)
+  pub means : (t : Text) → eventsFrom n (record { mode = start; known = nothingKnown }) (text t) ≡ eventsOf n t
+  means (empty bs) = blanks-start nothingKnown bs []
+  means (drawn bs b ps cs ds) =
+      let s = points ps (bytes cs (commands ds [])) in
+      blanks-start nothingKnown bs (b .code ∷ s)
+      ∙ into start nothingKnown b s
+      ∙ first-run ds (claims ds) cs X ps (withPen nothingKnown (letteredOf (nothingKnown .pen) Move (b .code)))

@@ -1,58 +1,62 @@
 -- What is known between two bytes. Assumes nothing.
 use Prim.Native.Nat.{ℕ}
-use mathlib.Core.Bool.{Bool, true, false, cond}
+use mathlib.Core.Bool.{Bool, false}
 use lib.Dec.{eqb}
-use lib.Ieee.{Float, ofBits, binary32}
+use lib.Ieee.{Float}
+use Rattle.decimals.specs.Decimals.{valueOf}
+use Rattle.decimals.specs.Digits.{digitOf, wholeCap, fractionCap, millionthsOf}
 use Rattle.form.specs.declared.classes.Class.{Class}
-use Rattle.form.specs.declared.classes.Class.the-variants.{Blank, Comma, Sign, Digit, MoveTo, LineTo, ClosePath, Other}
-use Rattle.form.specs.declared.machine.Part.{Part}
-use Rattle.form.specs.declared.machine.Part.the-variants.{No, X, Y}
+use Rattle.form.specs.declared.classes.Class.the-variants.{Blank, Comma, Sign, Digit, Dot, Command, Other}
+use Rattle.form.specs.declared.machine.Going.{Going}
+use Rattle.form.specs.declared.machine.Going.the-variants.{Fresh, Opened, InWhole, AtPoint, InFraction}
 use Rattle.values.specs.declared.known.Known.{Known}
-use Rattle.values.specs.Numbers.{grownOf, valueOf}
+use Rattle.values.specs.declared.pen.Pen.{Pen}
+use Rattle.values.specs.Pen.{restingPen, letteredOf}
 
 abbrev pub nothingKnown : Known
-nothingKnown = record { fresh = false; minus = false; size = 0; place = 0; x = ofBits binary32 0; «first_x» = ofBits binary32 0; «first_y» = ofBits binary32 0 }
+nothingKnown = record { pen = restingPen; minus = false; whole = 0; fraction = 0; place = 0 }
 
-abbrev pub withNumber : Known → Bool → ℕ → ℕ → Known
-withNumber v minus size place = record { fresh = v .fresh; minus = minus; size = size; place = place; x = v .x; «first_x» = v .«first_x»; «first_y» = v .«first_y» }
+abbrev pub withNumber : Known → Bool → ℕ → ℕ → ℕ → Known
+withNumber v minus whole fraction place = record { pen = v .pen; minus = minus; whole = whole; fraction = fraction; place = place }
 
-abbrev pub withFresh : Known → Bool → Known
-withFresh v fresh = record { fresh = fresh; minus = v .minus; size = v .size; place = v .place; x = v .x; «first_x» = v .«first_x»; «first_y» = v .«first_y» }
+abbrev pub withWhole : Known → ℕ → Known
+withWhole v whole = withNumber v (v .minus) whole (v .fraction) (v .place)
 
-abbrev pub withX : Known → Float → Known
-withX v x = record { fresh = v .fresh; minus = v .minus; size = v .size; place = v .place; x = x; «first_x» = v .«first_x»; «first_y» = v .«first_y» }
+abbrev pub withFraction : Known → ℕ → Known
+withFraction v fraction = withNumber v (v .minus) (v .whole) fraction (v .place)
 
--- a point that begins a run is its first
-abbrev pub withPoint : Known → Float → Known
-withPoint v y =
-    record {
-      fresh = false;
-      minus = v .minus;
-      size = v .size;
-      place = v .place;
-      x = v .x;
-      «first_x» = cond (v .fresh) (v .x) (v .«first_x»);
-      «first_y» = cond (v .fresh) y (v .«first_y»);
-    }
+abbrev pub withPen : Known → Pen → Known
+withPen v pen = record { pen = pen; minus = v .minus; whole = v .whole; fraction = v .fraction; place = v .place }
 
--- once a number has ended
-abbrev pub settledOf : Part → Known → Known
-settledOf No v = v
-settledOf X v = withX v (valueOf (v .minus) (v .size))
-settledOf Y v = withPoint v (valueOf (v .minus) (v .size))
+-- the number in millionths, with so many digits after its point, and its float
+abbrev pub amountOf : Known → ℕ → ℕ
+amountOf v places = millionthsOf (v .whole) (v .fraction) places
+
+abbrev pub floatOf : Known → ℕ → Float
+floatOf v places = valueOf (v .minus) (amountOf v places)
 
 -- a digit goes on with a number, or begins one
-abbrev pub digitTaken : Bool → ℕ → ℕ → Known → Known
-digitTaken true b place v = withNumber v (v .minus) (grownOf (v .size) b) (v .place)
-digitTaken false b place v = withNumber v false (grownOf 0 b) place
+abbrev pub digitTaken : Going → ℕ → ℕ → Known → Known
+digitTaken Fresh b place v = withNumber v false (digitOf wholeCap 0 b) 0 place
+digitTaken Opened b place v = withWhole v (digitOf wholeCap (v .whole) b)
+digitTaken InWhole b place v = withWhole v (digitOf wholeCap (v .whole) b)
+digitTaken AtPoint b place v = withFraction v (digitOf fractionCap (v .fraction) b)
+digitTaken InFraction b place v = withFraction v (digitOf fractionCap (v .fraction) b)
+
+-- and so does a point; a second one begins the next
+abbrev pub dotTaken : Going → ℕ → Known → Known
+dotTaken Fresh place v = withNumber v false 0 0 place
+dotTaken Opened place v = v
+dotTaken InWhole place v = v
+dotTaken AtPoint place v = v
+dotTaken InFraction place v = withNumber v false 0 0 place
 
 -- after a byte
-abbrev pub takenOf : Bool → ℕ → Class → ℕ → Known → Known
+abbrev pub takenOf : Going → ℕ → Class → ℕ → Known → Known
 takenOf going b Blank place v = v
 takenOf going b Comma place v = v
-takenOf going b Sign place v = withNumber v (eqb b 45) 0 place
+takenOf going b Sign place v = withNumber v (eqb b 45) 0 0 place
 takenOf going b Digit place v = digitTaken going b place v
-takenOf going b MoveTo place v = withFresh v true
-takenOf going b LineTo place v = withFresh v false
-takenOf going b ClosePath place v = v
+takenOf going b Dot place v = dotTaken going place v
+takenOf going b (Command l) place v = withPen v (letteredOf (v .pen) l b)
 takenOf going b Other place v = v

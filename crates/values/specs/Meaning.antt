@@ -1,72 +1,89 @@
--- What a text of the form means, by document 01's paragraph "Path text": the events that it calls for, in turn, where n is the length of the text.
--- Assumes nothing.
-use Prim.Native.Nat.{ℕ, _+_, _-_, _*_}
+-- What a text of the form means, by document 01's paragraph "Path text" and W-204: the events that it calls for, in turn, where n is the length of the
+-- text. Assumes nothing.
+use Prim.Native.Nat.{ℕ, _+_, _-_}
 use mathlib.Core.Bool.{Bool, true, false, cond}
 use mathlib.Core.List.{List, [], _∷_}
-use lib.Dec.{ltb, eqb}
+use lib.Dec.{eqb}
 use lib.ListN.{length}
 use lib.Ieee.{Float}
+use Rattle.decimals.specs.Decimals.{valueOf}
+use Rattle.decimals.specs.Digits.{beyondOf, keptOf, decimalOf}
+use Rattle.decimals.specs.Digits as decimals
+use Rattle.form.specs.declared.classes.Letter.the-variants.{Move, Line, Along}
+use Rattle.form.specs.declared.machine.Axis.{Axis}
+use Rattle.form.specs.Machine.{after}
+use Rattle.form.specs.Form.{bytes, places, Tail, none, point, Decimal, digits, dotted, Number, bare, signed, number, numberOf, More}
+use Rattle.form.specs.Form.{stop, more, numbers, Points, points, Drawing, move, line, along, close, commands, Text, empty, drawn}
 use Rattle.values.specs.declared.events.Event.{Event}
-use Rattle.values.specs.declared.events.Event.the-variants.{Nothing, Begin, Line, Beyond}
-use Rattle.form.specs.Form.{Digits, bytes, Number, bare, signed, number, Next, spaced, parted, joined, next, Pair, pairs, Points, Command, move, line, close, commands, Text, empty, drawn}
-use Rattle.values.specs.Events.{put, endOf, closeOf}
-use Rattle.values.specs.Numbers.{numberLimit, kept, valueOf}
+use Rattle.values.specs.declared.pen.Pen.{Pen}
+use Rattle.values.specs.Events.{put, numberAt, endOf, closeOf, goOnOf}
+use Rattle.values.specs.Pen.{restingPen, isLarge, placedOf, homeOf, letteredOf}
 
--- "whole numbers": the number whose digits are those of a, and then ds
-abbrev pub whole : ℕ → Digits → ℕ
-whole a [] = a
-whole a (d ∷ ds) = whole (10 * a + (d .code - 48)) ds
+-- the digits before the point, and those after it
+abbrev pub tailDigits : Tail → List ℕ
+tailDigits none = []
+tailDigits (point p ds) = places ds []
 
-abbrev pub sizeOf : Number → ℕ
-sizeOf (bare d ds) = whole (d .code - 48) ds
-sizeOf (signed g d ds) = whole (d .code - 48) ds
+abbrev pub wholeDigits : Decimal → List ℕ
+wholeDigits (digits d ds t) = d .code ∷ bytes ds []
+wholeDigits (dotted p ds) = []
 
--- "with an optional sign"
+abbrev pub fractionDigits : Decimal → List ℕ
+fractionDigits (digits d ds t) = tailDigits t
+fractionDigits (dotted p ds) = places ds []
+
+abbrev pub sizeOf : Number → Decimal
+sizeOf (bare d) = d
+sizeOf (signed g d) = d
+
 abbrev pub minusOf : Number → Bool
-minusOf (bare d ds) = false
-minusOf (signed g d ds) = eqb (g .code) 45
+minusOf (bare d) = false
+minusOf (signed g d) = eqb (g .code) 45
 
--- its float. A number that is too large has none that is read: there it is that of 32,769.
-abbrev pub floatOf : Number → Float
-floatOf n = valueOf (minusOf n) (kept (sizeOf n))
+-- "its exact decimal", in millionths
+abbrev pub exactOf : Number → ℕ
+exactOf m = decimals.exactOf (wholeDigits (sizeOf m)) (fractionDigits (sizeOf m))
 
-abbrev pub numberOf : Next → Number
-numberOf (spaced b bs n) = n
-numberOf (parted bs c cs n) = n
-numberOf (joined g d ds) = signed g d ds
+-- "A number becomes the nearest f32 of its exact decimal, ties to even." One that is too large has none that is read: there it is that of the digits
+-- that are kept.
+abbrev pub numberFloat : Number → Float
+numberFloat m =
+    let ws = wholeDigits (sizeOf m) in
+    let fs = fractionDigits (sizeOf m) in
+    cond (beyondOf (exactOf m)) (valueOf (minusOf m) (keptOf ws fs)) (decimalOf (minusOf m) ws fs)
 
--- "a number beyond 32,768 in size", at its "first byte", where r follows it
-abbrev pub tooLarge : ℕ → Number → List ℕ → Event
-tooLarge n m r = cond (ltb numberLimit (sizeOf m)) (Beyond (n - length (number m r))) Nothing
+-- the pen behind a number of an axis
+abbrev pub placedBy : Pen → Axis → Number → Pen
+placedBy p a m = placedOf p a (numberFloat m)
 
--- "Further pairs after M are lines", and so are those after L: es comes after them
-abbrev pub lineEvents : ℕ → List Pair → List ℕ → List Event → List Event
-lineEvents n [] r es = es
-lineEvents n (p ∷ ps) r es =
-    put (tooLarge n (numberOf (p .x)) (next (p .y) (pairs ps r)))
-    (put (tooLarge n (numberOf (p .y)) (pairs ps r))
-    (Line (floatOf (numberOf (p .x))) (floatOf (numberOf (p .y))) ∷ lineEvents n ps r es))
+-- a number, where r follows it: too large, by its exact decimal or by the coordinate that it comes to, at its first byte; or the point that it completes
+abbrev pub numberEvents : ℕ → Pen → Axis → Number → List ℕ → List Event → List Event
+numberEvents n p a m r es =
+    put (numberAt (isLarge (exactOf m) p a (numberFloat m)) (n - length (number m r)) p (placedBy p a m) a (n - length r)) es
 
--- the first pair is what `point` makes of it
-abbrev pub pointEvents : ℕ → (Float → Float → Event) → Points → List ℕ → List Event → List Event
-pointEvents n point p r es =
-    put (tooLarge n (p .x) (next (p .y) (pairs (p .more) r)))
-    (put (tooLarge n (numberOf (p .y)) (pairs (p .more) r))
-    (put (point (floatOf (p .x)) (floatOf (numberOf (p .y)))) (lineEvents n (p .more) r es)))
+-- the numbers behind one, and what the pen that they leave calls for: "Further pairs after M are lines", and so are those after L
+abbrev pub moreEvents : ℕ → Pen → {a : Axis} {h : Bool} → More a h → List ℕ → (Pen → List Event) → List Event
+moreEvents n p (stop e) r es = es p
+moreEvents n p {a} (more x ms) r es = numberEvents n p (after a) (numberOf x) (numbers ms r) (moreEvents n (placedBy p (after a) (numberOf x)) ms r es)
 
--- Commands that follow, inside a run or behind one whose first point is (fx, fy): "L after Z begins a run at the closed run's first point. Z after Z
--- adds nothing. M or the end of text ends a run open."
-abbrev pub commandEvents : ℕ → Bool → Float → Float → List Command → List Event
-commandEvents n inside fx fy [] = put (endOf inside) []
-commandEvents n inside fx fy (move m p bs ∷ cs) =
-    put (endOf inside)
-    (pointEvents n (λ x y. Begin x y) p (bytes bs (commands cs [])) (commandEvents n true (floatOf (p .x)) (floatOf (numberOf (p .y))) cs))
-commandEvents n inside fx fy (line l p bs ∷ cs) =
-    put (cond inside Nothing (Begin fx fy))
-    (pointEvents n (λ x y. Line x y) p (bytes bs (commands cs [])) (commandEvents n true fx fy cs))
-commandEvents n inside fx fy (close z bs ∷ cs) = put (closeOf inside) (commandEvents n false fx fy cs)
+abbrev pub pointEvents : ℕ → Pen → {a : Axis} → Points a → List ℕ → (Pen → List Event) → List Event
+pointEvents n p {a} ps r es = numberEvents n p a (ps .first) (numbers (ps .others) r) (moreEvents n (placedBy p a (ps .first)) (ps .others) r es)
+
+-- Commands that follow, inside a run or behind one: "L after Z begins a run at the closed run's first point. Z after Z adds nothing. M or the end of
+-- text ends a run open."
+abbrev pub commandEvents : ℕ → Bool → Pen → List Drawing → List Event
+commandEvents n inside p [] = put (endOf inside (n + 1)) []
+commandEvents n inside p (move l ps bs ∷ cs) =
+    put (endOf inside (n - length (points ps (bytes bs (commands cs [])))))
+    (pointEvents n (letteredOf p Move (l .code)) ps (bytes bs (commands cs [])) (λ q. commandEvents n true q cs))
+commandEvents n inside p (line l ps bs ∷ cs) =
+    put (goOnOf inside p (n - length (points ps (bytes bs (commands cs [])))))
+    (pointEvents n (letteredOf p Line (l .code)) ps (bytes bs (commands cs [])) (λ q. commandEvents n true q cs))
+commandEvents n inside p (along l ps bs ∷ cs) =
+    put (goOnOf inside p (n - length (points ps (bytes bs (commands cs [])))))
+    (pointEvents n (letteredOf p Along (l .code)) ps (bytes bs (commands cs [])) (λ q. commandEvents n true q cs))
+commandEvents n inside p (close z bs ∷ cs) = put (closeOf inside (n - length (bytes bs (commands cs [])))) (commandEvents n false (homeOf p) cs)
 
 abbrev pub eventsOf : ℕ → Text → List Event
 eventsOf n (empty bs) = []
-eventsOf n (drawn bs m p cs ds) =
-    pointEvents n (λ x y. Begin x y) p (bytes cs (commands ds [])) (commandEvents n true (floatOf (p .x)) (floatOf (numberOf (p .y))) ds)
+eventsOf n (drawn bs l ps cs ds) = pointEvents n (letteredOf restingPen Move (l .code)) ps (bytes cs (commands ds [])) (λ q. commandEvents n true q ds)

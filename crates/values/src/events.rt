@@ -1,108 +1,113 @@
 // What a path text calls for.
-use crate::known::Known;
-use crate::numbers::NUMBER_LIMIT;
-use crate::numbers::value;
+use crate::pen::Pen;
 use form::classes::Class;
-use form::machine::Part;
+use form::classes::Letter;
+use form::machine::Axis;
+use form::machine::ends_point;
 ghost use mathlib.Core.Path.{_≡_};
-ghost use Rattle.values.specs.Events.{checkedOf, beyondOf, pointOf, endOf, closeOf, goOnOf, letterOf};
+ghost use Rattle.values.specs.Events.{pointAt, numberAt, endOf, closeOf, goOnOf, commandOf, letterOf};
 
+// The last number is the place behind the event's last byte; behind the end of the text it is one more than the length.
 pub enum Event {
     Nothing,
     // A run begins at a point.
-    Begin(f32, f32),
+    Begin(f32, f32, usize),
     // A line to a point.
-    Line(f32, f32),
-    EndOpen,
-    EndClosed,
+    Line(f32, f32, usize),
+    EndOpen(usize),
+    EndClosed(usize),
     // A number beyond the limit, at the place of its first byte.
     Beyond(usize),
 }
 
-// By a number that ends.
-pub(crate) fn beyond(p: Part, v: Known) -> Event
-    ensures { λ r. ⌜ r ≡ beyondOf p v ⌝ }
+// By the point that a number of an axis completes, with the pen before and behind it.
+fn point_at(before: Pen, now: Pen, a: Axis, end: usize) -> Event
+    ensures { λ r. ⌜ r ≡ pointAt before now a end ⌝ }
 {
-    match p {
-        Part::No => Event::Nothing,
-        Part::X => checked(v),
-        Part::Y => checked(v),
-    }
-}
-
-fn checked(v: Known) -> Event
-    ensures { λ r. ⌜ r ≡ checkedOf v ⌝ }
-{
-    if NUMBER_LIMIT < v.size {
-        Event::Beyond(v.place)
+    if ends_point(a) {
+        if before.fresh {
+            Event::Begin(now.x, now.y, end)
+        } else {
+            Event::Line(now.x, now.y, end)
+        }
     } else {
         Event::Nothing
     }
 }
 
-// By the point that a number completes.
-pub(crate) fn point(p: Part, v: Known) -> Event
-    ensures { λ r. ⌜ r ≡ pointOf p v ⌝ }
+// By a number: that it is too large, or the point.
+pub(crate) fn number_at(
+    large: bool,
+    place: usize,
+    before: Pen,
+    now: Pen,
+    a: Axis,
+    end: usize,
+) -> Event
+    ensures { λ r. ⌜ r ≡ numberAt large place before now a end ⌝ }
 {
-    match p {
-        Part::No => Event::Nothing,
-        Part::X => Event::Nothing,
-        Part::Y => {
-            let y = value(v.minus, v.size);
-            if v.fresh {
-                Event::Begin(v.x, y)
-            } else {
-                Event::Line(v.x, y)
-            }
-        }
+    if large {
+        Event::Beyond(place)
+    } else {
+        point_at(before, now, a, end)
     }
 }
 
 // By M or the end of the text.
-pub(crate) fn end(inside: bool) -> Event
-    ensures { λ r. ⌜ r ≡ endOf inside ⌝ }
+fn end(inside: bool, end: usize) -> Event
+    ensures { λ r. ⌜ r ≡ endOf inside end ⌝ }
 {
     if inside {
-        Event::EndOpen
+        Event::EndOpen(end)
     } else {
         Event::Nothing
     }
 }
 
 // By Z.
-fn close(inside: bool) -> Event
-    ensures { λ r. ⌜ r ≡ closeOf inside ⌝ }
+fn close(inside: bool, end: usize) -> Event
+    ensures { λ r. ⌜ r ≡ closeOf inside end ⌝ }
 {
     if inside {
-        Event::EndClosed
+        Event::EndClosed(end)
     } else {
         Event::Nothing
     }
 }
 
-// By L, which after Z begins a run.
-fn go_on(inside: bool, v: Known) -> Event
-    ensures { λ r. ⌜ r ≡ goOnOf inside v ⌝ }
+// By a line, which after Z begins a run.
+fn go_on(inside: bool, p: Pen, end: usize) -> Event
+    ensures { λ r. ⌜ r ≡ goOnOf inside p end ⌝ }
 {
     if inside {
         Event::Nothing
     } else {
-        Event::Begin(v.first_x, v.first_y)
+        Event::Begin(p.first_x, p.first_y, end)
+    }
+}
+
+fn command(inside: bool, p: Pen, l: Letter, behind: usize) -> Event
+    ensures { λ r. ⌜ r ≡ commandOf inside p l behind ⌝ }
+{
+    match l {
+        Letter::Move => end(inside, behind),
+        Letter::Line => go_on(inside, p, behind),
+        Letter::Along => go_on(inside, p, behind),
+        Letter::Close => close(inside, behind),
     }
 }
 
 // By a letter.
-pub(crate) fn letter(inside: bool, v: Known, k: Class) -> Event
-    ensures { λ r. ⌜ r ≡ letterOf inside v k ⌝ }
+pub(crate) fn letter(inside: bool, p: Pen, k: Class, behind: usize) -> Event
+    ensures { λ r. ⌜ r ≡ letterOf inside p k behind ⌝ }
 {
     match k {
         Class::Blank => Event::Nothing,
         Class::Comma => Event::Nothing,
         Class::Sign => Event::Nothing,
         Class::Digit => Event::Nothing,
-        Class::MoveTo => end(inside),
-        Class::LineTo => go_on(inside, v),
-        Class::ClosePath => close(inside),
+        Class::Dot => Event::Nothing,
+        Class::Command(l) => command(inside, p, l, behind),
         Class::Other => Event::Nothing,
     }
 }

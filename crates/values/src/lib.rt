@@ -1,5 +1,5 @@
 // What a path text means: its numbers, its points, and what each byte calls for.
 pub mod events;
 pub mod known;
-pub mod numbers;
+pub mod pen;
 pub mod state;

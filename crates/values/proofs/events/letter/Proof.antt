@@ -18,23 +18,14 @@ enum-told-4 c = search needs
 enum-told-5 : tie.Need-enum-told-5
 enum-told-5 c = search needs
 
-end-requires : tie.Need-end-requires
-end-requires c κs = search needs
+enum-known-k : tie.Need-enum-known-k
+enum-known-k c = search needs
+
+command-requires : tie.Need-command-requires
+command-requires c κs = search needs
 
 enum-told-6 : tie.Need-enum-told-6
 enum-told-6 c = search needs
-
-go-on-requires : tie.Need-go-on-requires
-go-on-requires c κs = search needs
-
-enum-told-7 : tie.Need-enum-told-7
-enum-told-7 c = search needs
-
-close-requires : tie.Need-close-requires
-close-requires c κs = search needs
-
-enum-told-8 : tie.Need-enum-told-8
-enum-told-8 c = search needs
 
 returns : tie.Need-returns
 returns c = search needs
@@ -52,13 +43,10 @@ returns-5 : tie.Need-returns-5
 returns-5 c = search needs
 
 returns-6 : tie.Need-returns-6
-returns-6 c = rw (c .before .enum-told6 .given .1) (c .go-on .ensures)
+returns-6 c = rw (c .before .before .k .given .1, c .command .ensures)
 
 returns-7 : tie.Need-returns-7
 returns-7 c = search needs
-
-returns-8 : tie.Need-returns-8
-returns-8 c = search needs
 
 pub letter-spec : {M : Type 1} → statement M
 letter-spec =
@@ -69,17 +57,13 @@ letter-spec =
     enum-told-3
     enum-told-4
     enum-told-5
-    end-requires
+    enum-known-k
+    command-requires
     enum-told-6
-    go-on-requires
-    enum-told-7
-    close-requires
-    enum-told-8
     returns
     returns-2
     returns-3
     returns-4
     returns-5
     returns-6
-    returns-7
-    returns-8)
+    returns-7)

@@ -1,7 +1,7 @@
 -- `values::known::taken` meets its contract. Assumes nothing.
-use borrow.Author.Needs.{needs}
 use mathlib.Core.Path.{sym, _∙_}
 use Rattle.form.proofs.Bytes.{digit-from}
+use borrow.Author.Needs.{needs}
 use Rattle.values.proofs.known.taken.Statement.{statement}
 use Rattle.values.proofs.known.taken.Tie as tie
 
@@ -26,20 +26,20 @@ digit-taken-requires c κs = digit-from (c .before .before .args .b) (sym (c .be
 enum-told-5 : tie.Need-enum-told-5
 enum-told-5 c = search needs
 
-with-fresh-requires : tie.Need-with-fresh-requires
-with-fresh-requires c κs = search needs
+dot-taken-requires : tie.Need-dot-taken-requires
+dot-taken-requires c κs = search needs
+
+enum-known-k : tie.Need-enum-known-k
+enum-known-k c = search needs
+
+lettered-requires : tie.Need-lettered-requires
+lettered-requires c κs = search needs
+
+with-pen-requires : tie.Need-with-pen-requires
+with-pen-requires c κs = search needs
 
 enum-told-6 : tie.Need-enum-told-6
 enum-told-6 c = search needs
-
-with-fresh-requires-2 : tie.Need-with-fresh-requires-2
-with-fresh-requires-2 c κs = search needs
-
-enum-told-7 : tie.Need-enum-told-7
-enum-told-7 c = search needs
-
-enum-told-8 : tie.Need-enum-told-8
-enum-told-8 c = search needs
 
 returns : tie.Need-returns
 returns c = rw (c .enum-told .given .1)
@@ -48,22 +48,22 @@ returns-2 : tie.Need-returns-2
 returns-2 c = rw (c .enum-told2 .given .1)
 
 returns-3 : tie.Need-returns-3
-returns-3 c = rw (c .before .enum-told3 .given .1) (c .with-number .ensures)
+returns-3 c = rw (c .before .enum-told3 .given .1, c .with-number .ensures)
 
 returns-4 : tie.Need-returns-4
-returns-4 c = rw (c .before .enum-told4 .given .1) (c .digit-taken .ensures)
+returns-4 c = rw (c .before .enum-told4 .given .1, c .digit-taken .ensures)
 
 returns-5 : tie.Need-returns-5
-returns-5 c = rw (c .before .enum-told5 .given .1) (c .with-fresh .ensures)
+returns-5 c = rw (c .before .enum-told5 .given .1, c .dot-taken .ensures)
 
 returns-6 : tie.Need-returns-6
-returns-6 c = rw (c .before .enum-told6 .given .1) (c .with-fresh2 .ensures)
+returns-6 c =
+    let at-lettered = c .before in
+    let at-k = at-lettered .before .before .before in
+    rw (at-k .k .given .1, c .with-pen .ensures, at-lettered .lettered .ensures)
 
 returns-7 : tie.Need-returns-7
-returns-7 c = rw (c .enum-told7 .given .1)
-
-returns-8 : tie.Need-returns-8
-returns-8 c = rw (c .enum-told8 .given .1)
+returns-7 c = rw (c .enum-told6 .given .1)
 
 pub taken-spec : {M : Type 1} → statement M
 taken-spec =
@@ -76,16 +76,15 @@ taken-spec =
     enum-told-4
     digit-taken-requires
     enum-told-5
-    with-fresh-requires
+    dot-taken-requires
+    enum-known-k
+    lettered-requires
+    with-pen-requires
     enum-told-6
-    with-fresh-requires-2
-    enum-told-7
-    enum-told-8
     returns
     returns-2
     returns-3
     returns-4
     returns-5
     returns-6
-    returns-7
-    returns-8)
+    returns-7)
