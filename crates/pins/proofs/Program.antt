@@ -1,7 +1,7 @@
 -- Document 01's example, computed: "For `M0 1L2 1` it prints just this". Assumes nothing.
 use mathlib.Core.Path.{refl}
 use lib.Count.{leadingZeros}
-use lib.Ieee.{sub, mul, div, le, ofBits, toBits, ofInt}
+use lib.Ieee.{sub, mul, div, le, ofBits, toBits, ofInt, lt, neg, round}
 use Rattle.lists.specs.Over.{over, flat}
 use Rattle.root.specs.Compute.{floorRoot, partsRoot, bitsRoot, rootOf}
 use Rattle.plane.specs.Vector.{plusOf, minusOf, timesOf, overOf, negatedOf, turnedOf, squareLengthOf, lengthOf}
@@ -26,7 +26,6 @@ use Rattle.runs.specs.Runs.{meshVertices, meshCount, meshTriangles, meshEdges}
 use Rattle.mesh.specs.Answer.{judgedOf}
 use Rattle.mesh.specs.Mesh.{acceptedOf, strokedOf, outcomeOf}
 use Rattle.form.specs.Bytes.{classOf}
-use Rattle.values.specs.Numbers.{valueOf}
 use Rattle.reader.specs.Read.{scannedOf, formedOf, outcomeOf as readOf}
 use Rattle.reader.proofs.Meets.{meets}
 use Rattle.lines.specs.Digits.{glyphOf, digitsOf, placesUpTo, decimalOf}
@@ -34,7 +33,7 @@ use Rattle.page.specs.Page.{bytes, verbRoom, coordRoom, linesTo, meshPage, mesh
 
 -- what the checker opens to compute it
 arithmetic : Unit {0}
-unfolding leadingZeros sub mul div le ofBits toBits ofInt floorRoot partsRoot bitsRoot rootOf
+unfolding leadingZeros sub mul div neg lt le round ofBits toBits ofInt floorRoot partsRoot bitsRoot rootOf
 arithmetic = tt
 
 vectors : Unit {0}
@@ -58,7 +57,7 @@ unfolding vertexCount jointVerticesOf verticesOf sections flat different triOf b
 meshes = tt
 
 calls : Unit {0}
-unfolding judgedOf acceptedOf strokedOf outcomeOf over classOf valueOf scannedOf formedOf readOf glyphOf digitsOf placesUpTo decimalOf linesTo meshPage meshPageOf readPageOf
+unfolding judgedOf acceptedOf strokedOf outcomeOf over classOf scannedOf formedOf readOf glyphOf digitsOf placesUpTo decimalOf linesTo meshPage meshPageOf readPageOf
 calls = tt
 
 pub example : Prints (bytes "M0 1L2 1") (bytes "v 4\n00000000 40000000\n00000000 00000000\n40000000 40000000\n40000000 00000000\nt 2\n1 0 2\n1 2 3\n")

@@ -1,146 +1,119 @@
--- What one byte's call adds to the events that follow it. Assumes nothing.
+-- What one event, and what one byte's call, adds to what follows it: counts and lists. Assumes nothing.
 use Prim.Native.Nat.{ℕ, _+_, _≤_}
 use mathlib.Core.Path.{_≡_, refl, sym, ap, _∙_}
-use mathlib.Core.Bool.{Bool, true, false, cond}
-use mathlib.Core.List.{List, [], _++_, append-assoc}
+use mathlib.Core.List.{List, [], _++_}
 use native.Mathlib.Omega.{arith}
-use lib.Dec.{ltb}
 use lib.Ieee.{Float}
 use lib.ListN.{length, length-append}
-use Rattle.form.specs.declared.classes.Class.{Class}
-use Rattle.form.specs.declared.classes.Class.the-variants.{Blank, Comma, Sign, Digit, MoveTo, LineTo, ClosePath, Other}
-use Rattle.form.specs.declared.machine.Part.{Part}
-use Rattle.form.specs.declared.machine.Part.the-variants.{No, X, Y}
-use Rattle.form.specs.Bytes.{classOf}
-use Rattle.form.specs.Machine.{rowOf}
+use Rattle.lists.specs.Over.{over, putAt}
+use Rattle.lists.proofs.Laws.{put-append, put-none, length-put}
 use Rattle.values.specs.declared.events.Event.{Event}
 use Rattle.values.specs.declared.events.Event.the-variants.{Nothing, Begin, Line, EndOpen, EndClosed, Beyond}
-use Rattle.values.specs.declared.known.Known.{Known}
 use Rattle.values.specs.declared.state.Called.{Called}
-use Rattle.values.specs.declared.state.State.{State}
-use Rattle.values.specs.Events.{put, beyondOf, pointOf, letterOf, endOf}
-use Rattle.values.specs.Numbers.{numberLimit, endingOf, valueOf}
-use Rattle.values.specs.State.{calledOf, endedOf, inTurn}
-use Rattle.reader.specs.declared.counts.Found.the-variants.{Nowhere}
-use Rattle.reader.specs.Counts.{verbOf, coordsAt, largeOf, orElse, verbsOf, coordsOf, firstLarge, verbsCalled, coordsCalled}
+use Rattle.values.specs.Events.{put}
+use Rattle.values.specs.State.{inTurn}
+use Rattle.reader.specs.declared.counts.Counts.{Counts}
+use Rattle.reader.specs.declared.counts.Found.{Found}
+use Rattle.reader.specs.declared.counts.Found.the-variants.{Nowhere, At}
+use Rattle.reader.specs.Counts.{verbOf, coordsAt, largeOf, orElse, verbsOf, coordsOf, firstLarge, countsOf, addedOf, calledCounts, calledVerbs, calledCoords}
 
-few : (e : Event) → (length (verbOf e) ≤ 1) × (length (coordsAt e) ≤ 2)
+pub few : (e : Event) → (length (verbOf e) ≤ 1) × (length (coordsAt e) ≤ 2)
 few Nothing = omega arith
-few (Begin x y) = omega arith
-few (Line x y) = omega arith
-few EndOpen = omega arith
-few EndClosed = omega arith
+few (Begin x y i) = omega arith
+few (Line x y i) = omega arith
+few (EndOpen i) = omega arith
+few (EndClosed i) = omega arith
 few (Beyond i) = omega arith
 
-pub called-length : (c : Called) → (length (verbsCalled c) ≡ length (verbOf (c .point)) + length (verbOf (c .letter)))
-    × (length (coordsCalled c) ≡ length (coordsAt (c .point)) + length (coordsAt (c .letter)))
-called-length c = (length-append (verbOf (c .point)) (verbOf (c .letter)), length-append (coordsAt (c .point)) (coordsAt (c .letter)))
+pub called-few : (c : Counts) (k : Called) → (calledCounts c k .verbs ≤ c .verbs + 2) × (calledCounts c k .coords ≤ c .coords + 4)
+called-few c k = omega (arith, few (k .number), few (k .letter))
 
-pub called-few : (c : Called) → (length (verbsCalled c) ≤ 2) × (length (coordsCalled c) ≤ 4)
-called-few c = omega (arith, few (c .point), few (c .letter), called-length c)
+pub verbs-length : (c : Counts) (k : Called) (v : List ℕ) → length (calledVerbs c k v) ≡ length v
+verbs-length c k v = length-put (addedOf c (k .number) .verbs) (verbOf (k .letter)) (putAt (c .verbs) (verbOf (k .number)) v) ∙ length-put (c .verbs) (verbOf (k .number)) v
 
--- one event
+pub coords-length : (c : Counts) (k : Called) (v : List Float) → length (calledCoords c k v) ≡ length v
+coords-length c k v = length-put (addedOf c (k .number) .coords) (coordsAt (k .letter)) (putAt (c .coords) (coordsAt (k .number)) v) ∙ length-put (c .coords) (coordsAt (k .number)) v
+
+-- by the two events of a call, one behind the other
+module _ (c : Counts) (k : Called) (d : Counts) where
+  pub called-counts : (r : Counts) → d ≡ addedOf c (k .number) → r ≡ addedOf d (k .letter) → r ≡ calledCounts c k
+  called-counts r e f = f ∙ ap (λ x. addedOf x (k .letter)) e
+
+  pub called-verbs : (v v1 v2 : List ℕ) → d ≡ addedOf c (k .number) → v1 ≡ putAt (c .verbs) (verbOf (k .number)) v → v2 ≡ putAt (d .verbs) (verbOf (k .letter)) v1
+      → v2 ≡ calledVerbs c k v
+  called-verbs v v1 v2 e f g = g ∙ ap (λ (x : Counts). putAt (x .verbs) (verbOf (k .letter)) v1) e ∙ ap (λ l. putAt (addedOf c (k .number) .verbs) (verbOf (k .letter)) l) f
+
+  pub called-coords : (v v1 v2 : List Float) → d ≡ addedOf c (k .number) → v1 ≡ putAt (c .coords) (coordsAt (k .number)) v → v2 ≡ putAt (d .coords) (coordsAt (k .letter)) v1
+      → v2 ≡ calledCoords c k v
+  called-coords v v1 v2 e f g = g ∙ ap (λ (x : Counts). putAt (x .coords) (coordsAt (k .letter)) v1) e ∙ ap (λ l. putAt (addedOf c (k .number) .coords) (coordsAt (k .letter)) l) f
+
 verbs-put : (e : Event) (es : List Event) → verbsOf (put e es) ≡ verbOf e ++ verbsOf es
 verbs-put Nothing es = refl
-verbs-put (Begin x y) es = refl
-verbs-put (Line x y) es = refl
-verbs-put EndOpen es = refl
-verbs-put EndClosed es = refl
+verbs-put (Begin x y i) es = refl
+verbs-put (Line x y i) es = refl
+verbs-put (EndOpen i) es = refl
+verbs-put (EndClosed i) es = refl
 verbs-put (Beyond i) es = refl
 
 coords-put : (e : Event) (es : List Event) → coordsOf (put e es) ≡ coordsAt e ++ coordsOf es
 coords-put Nothing es = refl
-coords-put (Begin x y) es = refl
-coords-put (Line x y) es = refl
-coords-put EndOpen es = refl
-coords-put EndClosed es = refl
+coords-put (Begin x y i) es = refl
+coords-put (Line x y i) es = refl
+coords-put (EndOpen i) es = refl
+coords-put (EndClosed i) es = refl
 coords-put (Beyond i) es = refl
 
 large-put : (e : Event) (es : List Event) → firstLarge (put e es) ≡ orElse (largeOf e) (firstLarge es)
 large-put Nothing es = refl
-large-put (Begin x y) es = refl
-large-put (Line x y) es = refl
-large-put EndOpen es = refl
-large-put EndClosed es = refl
+large-put (Begin x y i) es = refl
+large-put (Line x y i) es = refl
+large-put (EndOpen i) es = refl
+large-put (EndClosed i) es = refl
 large-put (Beyond i) es = refl
 
--- a number is none of the path's; points and letters are not too large
-pub record Plain (c : Called) : Type 0 where
-  pub no-verb : verbOf (c .number) ≡ []
-  pub no-coords : coordsAt (c .number) ≡ []
-  pub point-small : largeOf (c .point) ≡ Nowhere
-  pub letter-small : largeOf (c .letter) ≡ Nowhere
+or-assoc : (a b c : Found) → orElse (orElse a b) c ≡ orElse a (orElse b c)
+or-assoc Nowhere b c = refl
+or-assoc (At i) b c = refl
 
-number-plain : (t : Bool) (i : ℕ) → (verbOf (cond t (Beyond i) Nothing) ≡ []) × (coordsAt (cond t (Beyond i) Nothing) ≡ [])
-number-plain true i = (refl, refl)
-number-plain false i = (refl, refl)
+or-nowhere : (a : Found) → orElse a Nowhere ≡ a
+or-nowhere Nowhere = refl
+or-nowhere (At i) = refl
 
-beyond-plain : (p : Part) (v : Known) → (verbOf (beyondOf p v) ≡ []) × (coordsAt (beyondOf p v) ≡ [])
-beyond-plain No v = (refl, refl)
-beyond-plain X v = number-plain (ltb numberLimit (v .size)) (v .place)
-beyond-plain Y v = number-plain (ltb numberLimit (v .size)) (v .place)
+-- Of all events, n counts what came before es; v0 and c0 were lent, and v and c hold what came before es: what was to come is still to come.
+pub record Coming (all : List Event) (v0 : List ℕ) (c0 : List Float) (v : List ℕ) (c : List Float) (n : Counts) (es : List Event) : Type 0 where
+  pub verbs : n .verbs + length (verbsOf es) ≡ length (verbsOf all)
+  pub coords : n .coords + length (coordsOf es) ≡ length (coordsOf all)
+  pub large : orElse (n .large) (firstLarge es) ≡ firstLarge all
+  pub held-verbs : putAt (n .verbs) (verbsOf es) v ≡ over (verbsOf all) v0
+  pub held-coords : putAt (n .coords) (coordsOf es) c ≡ over (coordsOf all) c0
 
-drawn-small : (t : Bool) (x y : Float) → largeOf (cond t (Begin x y) (Line x y)) ≡ Nowhere
-drawn-small true x y = refl
-drawn-small false x y = refl
+module _ {all : List Event} {v0 : List ℕ} {c0 : List Float} where
+  one : (v : List ℕ) (c : List Float) (n : Counts) (e : Event) (es : List Event) → Coming all v0 c0 v c n (put e es)
+      → Coming all v0 c0 (putAt (n .verbs) (verbOf e) v) (putAt (n .coords) (coordsAt e) c) (addedOf n e) es
+  one v c n e es l =
+      let x = ap length (verbs-put e es) ∙ length-append (verbOf e) (verbsOf es) in
+      let y = ap length (coords-put e es) ∙ length-append (coordsAt e) (coordsOf es) in
+      record {
+        verbs = omega (arith, l .verbs, x);
+        coords = omega (arith, l .coords, y);
+        large = or-assoc (n .large) (largeOf e) (firstLarge es) ∙ ap (λ f. orElse (n .large) f) (sym (large-put e es)) ∙ l .large;
+        held-verbs = put-append (n .verbs) (verbOf e) (verbsOf es) v ∙ ap (λ ws. putAt (n .verbs) ws v) (sym (verbs-put e es)) ∙ l .held-verbs;
+        held-coords = put-append (n .coords) (coordsAt e) (coordsOf es) c ∙ ap (λ ws. putAt (n .coords) ws c) (sym (coords-put e es)) ∙ l .held-coords;
+      }
 
-point-plain : (p : Part) (v : Known) → largeOf (pointOf p v) ≡ Nowhere
-point-plain No v = refl
-point-plain X v = refl
-point-plain Y v = drawn-small (v .fresh) (v .x) (valueOf (v .minus) (v .size))
+  pub coming-turn : (v : List ℕ) (c : List Float) (n : Counts) (k : Called) (es : List Event) → Coming all v0 c0 v c n (inTurn k es)
+      → Coming all v0 c0 (calledVerbs n k v) (calledCoords n k c) (calledCounts n k) es
+  coming-turn v c n k es l =
+      one (putAt (n .verbs) (verbOf (k .number)) v) (putAt (n .coords) (coordsAt (k .number)) c) (addedOf n (k .number)) (k .letter) es (one v c n (k .number) (put (k .letter) es) l)
 
-end-plain : (inside : Bool) → largeOf (endOf inside) ≡ Nowhere
-end-plain true = refl
-end-plain false = refl
+  -- nothing is left
+  module _ (v : List ℕ) (c : List Float) (n : Counts) (l : Coming all v0 c0 v c n []) where
+    pub all-counted : n ≡ countsOf all
+    all-counted =
+        let p : n .verbs ≡ length (verbsOf all) = omega (arith, l .verbs) in
+        let q : n .coords ≡ length (coordsOf all) = omega (arith, l .coords) in
+        let r : n .large ≡ firstLarge all = sym (or-nowhere (n .large)) ∙ l .large in
+        λ j. record { verbs = p j; coords = q j; large = r j }
 
-close-plain : (inside : Bool) → largeOf (cond inside EndClosed Nothing) ≡ Nowhere
-close-plain true = refl
-close-plain false = refl
-
-line-plain : (inside : Bool) (x y : Float) → largeOf (cond inside Nothing (Begin x y)) ≡ Nowhere
-line-plain true x y = refl
-line-plain false x y = refl
-
-letter-plain : (inside : Bool) (v : Known) (k : Class) → largeOf (letterOf inside v k) ≡ Nowhere
-letter-plain inside v Blank = refl
-letter-plain inside v Comma = refl
-letter-plain inside v Sign = refl
-letter-plain inside v Digit = refl
-letter-plain inside v MoveTo = end-plain inside
-letter-plain inside v LineTo = line-plain inside (v .«first_x») (v .«first_y»)
-letter-plain inside v ClosePath = close-plain inside
-letter-plain inside v Other = refl
-
-pub calls-plain : (s : State) (b : ℕ) → Plain (calledOf s b)
-calls-plain s b =
-    let n = beyond-plain (endingOf (rowOf (s .mode) .part) (classOf b)) (s .known) in
-    record { no-verb = n .0; no-coords = n .1; point-small = point-plain (endingOf (rowOf (s .mode) .part) (classOf b)) (s .known); letter-small = letter-plain (rowOf (s .mode) .stand .inside) (s .known) (classOf b) }
-
-pub end-calls-plain : (s : State) → Plain (endedOf s)
-end-calls-plain s =
-    let n = beyond-plain (rowOf (s .mode) .part) (s .known) in
-    record { no-verb = n .0; no-coords = n .1; point-small = point-plain (rowOf (s .mode) .part) (s .known); letter-small = end-plain (rowOf (s .mode) .stand .inside) }
-
-module _ (c : Called) (p : Plain c) (es : List Event) where
-  pub verbs-turn : verbsOf (inTurn c es) ≡ verbsCalled c ++ verbsOf es
-  verbs-turn =
-      verbs-put (c .number) (put (c .point) (put (c .letter) es))
-      ∙ ap (λ (l : List ℕ). l ++ verbsOf (put (c .point) (put (c .letter) es))) (p .no-verb)
-      ∙ verbs-put (c .point) (put (c .letter) es)
-      ∙ ap (λ (l : List ℕ). verbOf (c .point) ++ l) (verbs-put (c .letter) es)
-      ∙ sym (append-assoc (verbOf (c .point)) (verbOf (c .letter)) (verbsOf es))
-
-  pub coords-turn : coordsOf (inTurn c es) ≡ coordsCalled c ++ coordsOf es
-  coords-turn =
-      coords-put (c .number) (put (c .point) (put (c .letter) es))
-      ∙ ap (λ (l : List Float). l ++ coordsOf (put (c .point) (put (c .letter) es))) (p .no-coords)
-      ∙ coords-put (c .point) (put (c .letter) es)
-      ∙ ap (λ (l : List Float). coordsAt (c .point) ++ l) (coords-put (c .letter) es)
-      ∙ sym (append-assoc (coordsAt (c .point)) (coordsAt (c .letter)) (coordsOf es))
-
-  pub large-turn : firstLarge (inTurn c es) ≡ orElse (largeOf (c .number)) (firstLarge es)
-  large-turn =
-      large-put (c .number) (put (c .point) (put (c .letter) es))
-      ∙ ap (λ f. orElse (largeOf (c .number)) f)
-      (large-put (c .point) (put (c .letter) es) ∙ ap (λ f. orElse f (firstLarge (put (c .letter) es))) (p .point-small)
-      ∙ large-put (c .letter) es ∙ ap (λ f. orElse f (firstLarge es)) (p .letter-small))
+    pub all-held : (v ≡ over (verbsOf all) v0) × (c ≡ over (coordsOf all) c0)
+    all-held = (sym (put-none (n .verbs) v) ∙ l .held-verbs, sym (put-none (n .coords) c) ∙ l .held-coords)

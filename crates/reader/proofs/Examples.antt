@@ -6,12 +6,11 @@ use mathlib.Core.Path.{_≡_, refl}
 use mathlib.Core.Bool.{Bool, true, false, _&&_}
 use mathlib.Core.List.{List, [], _∷_, _++_, map}
 use lib.Dec.{eqb}
-use lib.Ieee.{binary32, ofBits, toBits, ofInt, neg}
+use lib.Ieee.{binary32, ofBits, toBits, round, add, lt, neg}
 use lib.ListN.{length, replicate}
 use Rattle.form.specs.Bytes.{classOf}
 use Rattle.form.specs.Machine.{stop}
 use Rattle.lists.specs.Over.{over}
-use Rattle.values.specs.Numbers.{valueOf}
 use Rattle.reader.specs.Outcome.{Outcome}
 use Rattle.reader.specs.Read.{scannedOf, formedOf, outcomeOf}
 
@@ -66,10 +65,21 @@ cases =
     ∷ refuses "L0 0" 9 9 9 0 ∷ refuses "M0 0 ,L1 1" 9 9 9 6 ∷ refuses "M0,,0" 9 9 9 3 ∷ refuses "M0 0L" 9 9 9 5 ∷ refuses "M1+" 9 9 9 3 ∷ refuses "M99999 x" 9 9 9 7
     -- too large, at the sign and at the first digit
     ∷ refuses "M0 0L-32769 99999" 9 9 10 5 ∷ refuses "M0 0,0 032769" 9 9 10 7
+    -- W-204: a point wants a digit behind it, and at most six; two points are two numbers
+    ∷ refuses "M1. 2" 9 9 9 3 ∷ reads "M0.6.5" 2 2 (0 ∷ 2 ∷ []) (0x3f19999a ∷ 0x3f000000 ∷ []) ∷ refuses "M6.5" 9 9 9 4 ∷ refuses "M0.1234567 0" 9 9 9 9
+    -- the exact decimal is judged, and the sum in f32
+    ∷ refuses "M32768.000001 0" 9 9 10 1 ∷ refuses "M32768.0000001 0" 9 9 9 13 ∷ reads "M32768 0h.001" 3 4 (0 ∷ 1 ∷ 2 ∷ []) (0x47000000 ∷ 0 ∷ 0x47000000 ∷ 0 ∷ [])
+    ∷ refuses "M32768 0h.01" 9 9 10 9 ∷ refuses "M-32768 0h40000" 9 9 10 10 ∷ refuses "M-32768-32768l-.001-.01" 9 9 10 19
+    -- a run begins again behind Z, and m adds to the closed run's first point
+    ∷ reads "M1 2Zh1" 5 6 (0 ∷ 3 ∷ 0 ∷ 1 ∷ 2 ∷ []) (0x3f800000 ∷ 0x40000000 ∷ 0x3f800000 ∷ 0x40000000 ∷ 0x40000000 ∷ 0x40000000 ∷ [])
+    ∷ reads "M1 2l1 2zm1 1" 5 6 (0 ∷ 1 ∷ 3 ∷ 0 ∷ 2 ∷ []) (0x3f800000 ∷ 0x40000000 ∷ 0x40000000 ∷ 0x40800000 ∷ 0x40000000 ∷ 0x40400000 ∷ [])
+    -- sums are f32 sums; the nearest f32 of the exact decimal, not of its parts or of a quotient
+    ∷ reads "M.1 0h.6" 3 4 (0 ∷ 1 ∷ 2 ∷ []) (0x3dcccccd ∷ 0 ∷ 0x3f333334 ∷ 0 ∷ []) ∷ reads "M-.0 1.18" 2 2 (0 ∷ 2 ∷ []) (0 ∷ 0x3f970a3d ∷ [])
+    ∷ reads "m34.00001 0v-1V2" 4 6 (0 ∷ 1 ∷ 1 ∷ 2 ∷ []) (0x42080003 ∷ 0 ∷ 0x42080003 ∷ 0xbf800000 ∷ 0x42080003 ∷ 0x40000000 ∷ [])
     -- no room
     ∷ refuses "M0 0L0 0" 2 4 11 0 ∷ refuses "M0 0L0 0" 3 3 11 0
     ∷ []
 
 pub worked : every cases ≡ true
-unfolding bytes same leaves says every cases outcomeOf scannedOf formedOf stop classOf valueOf over ofBits toBits ofInt neg
+unfolding bytes same leaves says every cases outcomeOf scannedOf formedOf stop classOf over ofBits toBits round add lt neg
 worked = refl

@@ -10,14 +10,13 @@ use borrow.Author.Tests.{lt-ltb, le-ltb}
 use lib.Ieee.{Float}
 use lib.ListN.{length}
 use Rattle.refusals.specs.Numbers.{numberOf, longText, malformedText, largeNumber, readerRoom}
-use Rattle.form.specs.declared.machine.Mode.the-variants.{Start}
 use Rattle.form.specs.Form.{Text, text, HasForm}
-use Rattle.form.specs.Machine.{final, mayEnd, stop}
-use Rattle.form.proofs.Parse.{never, taken-form}
+use Rattle.form.specs.Machine.{start, final, mayEnd, stop}
+use Rattle.form.proofs.Taken.{never}
+use Rattle.form.proofs.Parse.{taken-form}
 use Rattle.form.proofs.Place.{wrong-at, form-taken}
 use Rattle.form.proofs.Unique.{wrong-unique}
 use Rattle.values.specs.declared.events.Event.{Event}
-use Rattle.values.specs.Known.{nothingKnown}
 use Rattle.values.specs.Meaning.{eventsOf}
 use Rattle.values.specs.State.{eventsIn}
 use Rattle.values.proofs.Means.{means}
@@ -31,15 +30,15 @@ use Rattle.reader.specs.Reads.{verbsIn, coordsIn, largeIn, crowded, Text
 
 -- the bytes of a text call for what it means
 bytes-mean : (s : List ℕ) (t : Text) → text t ≡ s → eventsIn s ≡ eventsOf (length (text t)) t
-bytes-mean s t e = ap (λ l. eventsIn l) (sym e) ∙ means (length (text t)) t nothingKnown
+bytes-mean s t e = ap (λ l. eventsIn l) (sym e) ∙ means (length (text t)) t
 
-scanned-formed : (s : List ℕ) → mayEnd (final Start s) ≡ true → scannedOf s ≡ inForm (countsOf (eventsIn s))
+scanned-formed : (s : List ℕ) → mayEnd (final start s) ≡ true → scannedOf s ≡ inForm (countsOf (eventsIn s))
 unfolding scannedOf
-scanned-formed s e = ap (λ x. cond x (inForm (countsOf (eventsIn s))) (outOfForm (stop Start s))) e
+scanned-formed s e = ap (λ x. cond x (inForm (countsOf (eventsIn s))) (outOfForm (stop start s))) e
 
-scanned-wrong : (s : List ℕ) → mayEnd (final Start s) ≡ false → scannedOf s ≡ outOfForm (stop Start s)
+scanned-wrong : (s : List ℕ) → mayEnd (final start s) ≡ false → scannedOf s ≡ outOfForm (stop start s)
 unfolding scannedOf
-scanned-wrong s e = ap (λ x. cond x (inForm (countsOf (eventsIn s))) (outOfForm (stop Start s))) e
+scanned-wrong s e = ap (λ x. cond x (inForm (countsOf (eventsIn s))) (outOfForm (stop start s))) e
 
 module _ (s v : List ℕ) (c : List Float) where
   abbrev outcome : Outcome
@@ -53,8 +52,8 @@ module _ (s v : List ℕ) (c : List Float) where
   unfolding outcomeOf
   scan-so h x e = ap (λ t. cond t (refused v c (withPlace (numberOf longText) 0)) (byScan v c s (scannedOf s))) (le-ltb textLimit (length s) h) ∙ ap (λ y. byScan v c s y) e
 
-  wrong-so : length s ≤ textLimit → mayEnd (final Start s) ≡ false → outcome ≡ refused v c (withPlace (numberOf malformedText) (stop Start s))
-  wrong-so h e = scan-so h (outOfForm (stop Start s)) (scanned-wrong s e)
+  wrong-so : length s ≤ textLimit → mayEnd (final start s) ≡ false → outcome ≡ refused v c (withPlace (numberOf malformedText) (stop start s))
+  wrong-so h e = scan-so h (outOfForm (stop start s)) (scanned-wrong s e)
 
   -- by the text that the bytes are
   module _ (t : Text) (is : TextIs s t) where
@@ -91,7 +90,7 @@ module _ (s v : List ℕ) (c : List Float) where
     formed Nowhere f true q = subst (λ o. Reads s v c o) (sym (room-so f q)) (no-room t is f q)
     formed Nowhere f false q = subst (λ o. Reads s v c o) (sym (path-so f q)) (path t is f q)
 
-  short : length s ≤ textLimit → (b : Bool) → mayEnd (final Start s) ≡ b → Reads s v c outcome
+  short : length s ≤ textLimit → (b : Bool) → mayEnd (final start s) ≡ b → Reads s v c outcome
   short h true e =
       let f = taken-form s e in
       formed (f .0) (record { short = h; spelt = f .1 }) (largeIn (f .0)) refl (crowded v c (f .0)) refl
@@ -102,13 +101,13 @@ module _ (s v : List ℕ) (c : List Float) where
   meets = go (decLe (length s) textLimit)
     where
       go : Dec (length s ≤ textLimit) → Reads s v c outcome
-      go (yes h) = short h (mayEnd (final Start s)) refl
+      go (yes h) = short h (mayEnd (final start s)) refl
       go (no h) = subst (λ o. Reads s v c o) (sym (long-so (omega arith))) (too-long (omega arith))
 
   pub allowed : (o : Outcome) → outcomeOf s v c ≡ o → Reads s v c o
   allowed o e = subst (λ o. Reads s v c o) e meets
 
-  not-ended : (HasForm s → ⊥) → (b : Bool) → mayEnd (final Start s) ≡ b → mayEnd (final Start s) ≡ false
+  not-ended : (HasForm s → ⊥) → (b : Bool) → mayEnd (final start s) ≡ b → mayEnd (final start s) ≡ false
   not-ended n true e = absurd (n (taken-form s e))
   not-ended n false e = e
 
@@ -116,8 +115,8 @@ module _ (s v : List ℕ) (c : List Float) where
   pub only : (o : Outcome) → Reads s v c o → o ≡ outcomeOf s v c
   only o (too-long h) = sym (long-so h)
   only o (out-of-form {p} h w) =
-      let e = not-ended (w .unformed) (mayEnd (final Start s)) refl in
-      ap (λ i. refused v c (withPlace (numberOf malformedText) i)) (wrong-unique s p (stop Start s) w (wrong-at s e)) ∙ sym (wrong-so h e)
+      let e = not-ended (w .unformed) (mayEnd (final start s)) refl in
+      ap (λ i. refused v c (withPlace (numberOf malformedText) i)) (wrong-unique s p (stop start s) w (wrong-at s e)) ∙ sym (wrong-so h e)
   only o (too-large {p} t is f) = sym (large-so t is p f)
   only o (no-room t is f q) = sym (room-so t is f q)
   only o (path t is f q) = sym (path-so t is f q)

@@ -1,14 +1,46 @@
--- The room that an event at the front of the lists needs. Assumes nothing.
-use Prim.Native.Nat.{ℕ, _≤_}
-use mathlib.Core.Path.{_≡_, subst}
-use lib.ListN.{length}
-use Rattle.values.specs.declared.events.Event.{Event}
-use Rattle.reader.specs.Counts.{verbOf, coordsAt}
+-- Elements written at a place of a list that may end before they do. Assumes nothing.
+use Prim.Native.Nat.{ℕ, zero, suc, _-_, _≤_, _<_, min}
+use mathlib.Core.Path.{_≡_, refl, ap, _∙_}
+use mathlib.Core.List.{List, [], _∷_}
+use native.Mathlib.Omega.{arith}
+use lib.ListN.{length, set, getD}
+use borrow.Rule.Slice.PartMut.{midOf, putMid}
+use Rattle.lists.specs.Over.{over, putAt}
+use Rattle.lists.proofs.Parts.{put-part}
 
--- the room of an event that is known
-module _ {n : ℕ} {e f : Event} (q : e ≡ f) where
-  pub verb-room : length (verbOf e) ≤ n → length (verbOf f) ≤ n
-  verb-room h = subst (λ (x : Event). length (verbOf x) ≤ n) q h
+module _ {A : Type 0} where
+  -- nothing is written to no list
+  pub put-none : (vs xs : List A) → length xs < 1 → xs ≡ over vs xs
+  unfolding over
+  put-none [] xs h = refl
+  put-none (v ∷ vs) [] h = refl
+  put-none (v ∷ vs) (x ∷ xs) h = absurd (omega arith)
 
-  pub coords-room : length (coordsAt e) ≤ n → length (coordsAt f) ≤ n
-  coords-room h = subst (λ (x : Event). length (coordsAt x) ≤ n) q h
+  pub put-first : (a : A) (vs xs : List A) → 1 ≤ length xs → length xs < 2 → set xs 0 a ≡ over (a ∷ vs) xs
+  unfolding over
+  put-first a vs [] g h = absurd (omega arith)
+  put-first a [] (x ∷ xs) g h = refl
+  put-first a (v ∷ vs) (x ∷ []) g h = refl
+  put-first a (v ∷ vs) (x ∷ y ∷ xs) g h = absurd (omega arith)
+
+  -- from a place behind the end on, or from the end
+  clamped : (k : ℕ) (vs xs : List A) → putAt (min k (length xs)) vs xs ≡ putAt k vs xs
+  unfolding putAt over
+  clamped zero vs xs = let e : min 0 (length xs) ≡ 0 = omega arith in ap (λ j. putAt j vs xs) e
+  clamped (suc k) [] [] = let e : min (suc k) 0 ≡ 0 = omega arith in ap (λ (j : ℕ). putAt j [] []) e
+  clamped (suc k) (v ∷ vs) [] = let e : min (suc k) 0 ≡ 0 = omega arith in ap (λ (j : ℕ). putAt j (v ∷ vs) []) e
+  clamped (suc k) vs (x ∷ xs) =
+      let e : min (suc k) (suc (length xs)) ≡ suc (min k (length xs)) = omega arith in
+      ap (λ j. putAt j vs (x ∷ xs)) e ∙ ap (λ (l : List A). x ∷ l) (clamped k vs xs)
+
+  -- what a callee wrote at the start of the part from there on
+  pub put-clamped : (v ys ws : List A) (n k : ℕ) → k ≡ min n (length v) → ys ≡ over ws (midOf k (length v - k) v) → putMid k (length v - k) v ys ≡ putAt n ws v
+  put-clamped v ys ws n k h e =
+      let l : k ≤ length v = omega arith in
+      put-part v ys ws k l e ∙ ap (λ j. putAt j ws v) h ∙ clamped n ws v
+
+  -- an element that is there
+  pub any-default : (xs : List A) (i : ℕ) (d e : A) → i < length xs → getD xs i d ≡ getD xs i e
+  any-default [] i d e h = absurd (omega arith)
+  any-default (x ∷ xs) zero d e h = refl
+  any-default (x ∷ xs) (suc i) d e h = any-default xs i d e (omega arith)

@@ -1,22 +1,30 @@
--- What the reader answers, and both lists whole, by the two passes over the bytes. Assumes nothing.
-use Prim.Native.Nat.{ℕ, _≤_}
-use mathlib.Core.Bool.{cond}
+-- What the reader answers, and both lists whole, by the passes over the bytes: one that counts, one that writes. Assumes nothing.
+use Prim.Native.Nat.{ℕ}
+use mathlib.Core.Path.{_≡_}
+use mathlib.Core.Bool.{true, cond}
 use mathlib.Core.List.{List}
 use lib.Dec.{ltb, eqb}
 use lib.Ieee.{Float}
-use lib.ListN.{length}
+use lib.ListN.{length, getD}
+use Rattle.lists.specs.Over.{over}
 use Rattle.refusals.specs.Numbers.{numberOf, accepted, longText, malformedText}
-use Rattle.form.specs.declared.machine.Mode.the-variants.{Start}
-use Rattle.form.specs.Machine.{final, mayEnd, stop}
+use Rattle.form.specs.Machine.{start, final, mayEnd, stop}
 use Rattle.values.specs.State.{eventsIn}
 use Rattle.reader.specs.declared.counts.Counts.{Counts}
-use Rattle.reader.specs.declared.scan.Scanned.{Scanned}
-use Rattle.reader.specs.declared.scan.Scanned.the-variants.{OutOfForm, Formed}
+use Rattle.reader.specs.declared.pass.Scanned.{Scanned}
+use Rattle.reader.specs.declared.pass.Scanned.the-variants.{OutOfForm, Formed}
 use Rattle.reader.specs.Answer.{textLimit, withPlace, isPath, judgedOf}
 use Rattle.reader.specs.Counts.{verbsOf, coordsOf, noCounts, countsOf}
 use Rattle.reader.specs.Outcome.{Outcome, refused, written}
 
--- what the first pass answers: 0 with what the text comes to, or 9 at its place
+-- the byte at a place; behind the last one stands an M, which the end of the text is as good as
+abbrev pub endByte : ℕ
+endByte = 77
+
+abbrev pub byteAt : List ℕ → ℕ → ℕ
+byteAt text i = getD text i endByte
+
+-- what a pass answers: 0 with what the text comes to, or 9 at its place
 pub record ScanAnswer : Type 0 where
   pub number : ℕ
   pub place : ℕ
@@ -33,13 +41,11 @@ scanAnswerOf (Formed n) = inForm n
 scanAnswerOf (OutOfForm i) = outOfForm i
 
 unfoldable pub scannedOf : List ℕ → ScanAnswer
-scannedOf text = cond (mayEnd (final Start text)) (inForm (countsOf (eventsIn text))) (outOfForm (stop Start text))
+scannedOf text = cond (mayEnd (final start text)) (inForm (countsOf (eventsIn text))) (outOfForm (stop start text))
 
--- what the second pass asks for: the whole path fits into the lists
-pub record HasRoom (text v : List ℕ) (c : List Float) : Type 0 where
-  pub short : length text ≤ textLimit
-  pub verbs : length (verbsOf (eventsIn text)) ≤ length v
-  pub coords : length (coordsOf (eventsIn text)) ≤ length c
+-- what a pass leaves in the lists where the text has the form: the path, as far as they go
+abbrev pub Written : List ℕ → List ℕ → List Float → List ℕ → List Float → Type 0
+Written text v c v′ c′ = mayEnd (final start text) ≡ true → (v′ ≡ over (verbsOf (eventsIn text)) v) × (c′ ≡ over (coordsOf (eventsIn text)) c)
 
 -- the lists that are lent
 module _ (v : List ℕ) (c : List Float) where

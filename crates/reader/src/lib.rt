@@ -1,16 +1,14 @@
 // The reader of path text: from text to a path, or to one refusal of document 01's table.
 pub mod answer;
 mod counts;
-mod scan;
-mod write;
+mod pass;
 
 use crate::answer::Reading;
 use crate::answer::is_path;
 use crate::answer::judged;
 use crate::counts::Counts;
-use crate::scan::Scanned;
-use crate::scan::scan;
-use crate::write::write;
+use crate::pass::Scanned;
+use crate::pass::pass;
 ghost use mathlib.Core.Path.{_≡_};
 ghost use Prim.Native.Nat.{_≤_};
 ghost use lib.ListN.{length};
@@ -28,7 +26,7 @@ fn read_formed(text: &[u8], verbs: &mut [u8], coords: &mut [f32], counts: Counts
 {
     let answer = judged(counts, verbs.len(), coords.len());
     if is_path(answer) {
-        write(text, verbs, coords);
+        pass(text, verbs, coords);
     }
     answer
 }
@@ -41,7 +39,9 @@ pub fn read(text: &[u8], verbs: &mut [u8], coords: &mut [f32]) -> Reading
     if TEXT_LIMIT < text.len() {
         return Reading::TooLong;
     }
-    match scan(text) {
+    let mut no_verbs = [0u8; 0];
+    let mut no_coords = [0.0f32; 0];
+    match pass(text, &mut no_verbs, &mut no_coords) {
         Scanned::OutOfForm(place) => Reading::OutOfForm(place),
         Scanned::Formed(counts) => read_formed(text, verbs, coords, counts),
     }

@@ -1,27 +1,24 @@
 -- `reader::counts::added` meets its contract. Assumes nothing.
 use borrow.Author.Needs.{needs}
 use native.Mathlib.Omega.{arith}
-use Rattle.reader.proofs.Adding.{called-few}
+use Rattle.reader.proofs.Adding.{few}
 use Rattle.reader.proofs.counts.added.Statement.{statement}
 use Rattle.reader.proofs.counts.added.Tie as tie
 
-verbs-called-requires : tie.Need-verbs-called-requires
-verbs-called-requires c κs = search needs
+verb-count-requires : tie.Need-verb-count-requires
+verb-count-requires c κs = search needs
 
-add-t6 : tie.Need-add-t6
-add-t6 c =
-    let at-verbs-called = c .before in
-    let entry = at-verbs-called .before in
-    omega (arith, entry .pre, called-few (entry .args .e), at-verbs-called .verbs-called .ensures)
+add-t5 : tie.Need-add-t5
+add-t5 c = omega (arith, c .before .before .pre .0, c .before .before .pre .1, few (c .before .before .args .e), c .before .verb-count .ensures)
 
-coords-called-requires : tie.Need-coords-called-requires
-coords-called-requires c κs = search needs
+coord-count-requires : tie.Need-coord-count-requires
+coord-count-requires c κs = search needs
 
-add-t8 : tie.Need-add-t8
-add-t8 c =
-    let at-coords-called = c .before in
-    let entry = at-coords-called .before .before .before in
-    omega (arith, entry .pre, called-few (entry .args .e), at-coords-called .coords-called .ensures)
+add-t7 : tie.Need-add-t7
+add-t7 c =
+    let at-coord-count = c .before in
+    let entry = at-coord-count .before .before .before in
+    omega (arith, entry .pre .0, entry .pre .1, few (entry .args .e), at-coord-count .coord-count .ensures)
 
 large-requires : tie.Need-large-requires
 large-requires c κs = search needs
@@ -32,18 +29,18 @@ or-else-requires c κs = search needs
 returns : tie.Need-returns
 returns c =
     let at-large = c .before in
-    let at-coords-called = at-large .before .before in
-    let at-verbs-called = at-coords-called .before .before in
-    rw (c .or-else .ensures, at-large .large .ensures, at-coords-called .coords-called .ensures, at-verbs-called .verbs-called .ensures)
+    let at-coord-count = at-large .before .before in
+    let at-verb-count = at-coord-count .before .before in
+    rw (c .or-else .ensures, at-large .large .ensures, at-coord-count .coord-count .ensures, at-verb-count .verb-count .ensures)
 
 pub added-spec : {M : Type 1} → statement M
 added-spec =
     tie.close
     (tie.spec
-    verbs-called-requires
-    add-t6
-    coords-called-requires
-    add-t8
+    verb-count-requires
+    add-t5
+    coord-count-requires
+    add-t7
     large-requires
     or-else-requires
     returns)
