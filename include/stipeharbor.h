@@ -31,7 +31,7 @@ enum stipeharbor_number {
     STIPEHARBOR_TRIANGLE_ROOM = 7,  /* too few triangle places; the counts say how many are needed */
     STIPEHARBOR_TOO_LONG = 8,       /* the text has more than STIPEHARBOR_TEXT_LIMIT bytes */
     STIPEHARBOR_OUT_OF_FORM = 9,    /* from the byte at the place on, or at its end, the text is no path text */
-    STIPEHARBOR_TOO_LARGE = 10,     /* the number that begins at the place is beyond STIPEHARBOR_COORDINATE_LIMIT in size */
+    STIPEHARBOR_TOO_LARGE = 10,     /* the number that begins at the place, or the coordinate that it leads to, is beyond STIPEHARBOR_COORDINATE_LIMIT in size */
     STIPEHARBOR_NO_ROOM = 11,       /* the verb list or the coordinate list is too short, or the path has more than STIPEHARBOR_VERB_LIMIT verbs */
     STIPEHARBOR_NO_ROOT = 13,       /* the root of a negative, -0, infinite or NaN */
     STIPEHARBOR_FILE_ROOM = 14,     /* the byte list is too short for the STL file */
@@ -84,7 +84,7 @@ uint32_t stipeharbor_tessellate(
     uint16_t *triangles, size_t triangles_len,
     size_t *answer, size_t answer_len);
 
-/* Reads path text (M, L, Z, whole numbers) into the start of `verbs` and of `coords`, as stipeharbor_tessellate takes them. Elements behind keep what they have.
+/* Reads path text (M, L, H, V and Z in either case, decimals of up to six places) into the start of `verbs` and of `coords`, as stipeharbor_tessellate takes them. Elements behind keep what they have.
  * Refusals 8 to 11; one leaves `verbs` and `coords` as they were.
  * `answer` gets the place (of 9 and 10, else 0), the number of verbs and the number of coordinates (of 0, else 0). */
 uint32_t stipeharbor_read(

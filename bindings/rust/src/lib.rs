@@ -133,7 +133,8 @@ pub fn tessellate(
     })
 }
 
-/// Reads path text (M, L, Z, whole numbers) into the two lists that [`tessellate`] takes.
+/// Reads path text (M, L, H, V and Z in either case, decimals of up to six places) into the two lists
+/// that [`tessellate`] takes.
 pub fn read(text: &[u8], verbs: &mut [u8], coordinates: &mut [f32]) -> Result<Path, Refusal> {
     let mut answer = [0; 3];
     let number = raw::read(text, verbs, coordinates, &mut answer);

@@ -50,7 +50,7 @@ pub enum Refusal {
         /// Which byte.
         place: usize,
     },
-    /// 10: the number that begins at the place is beyond 32,768 in size.
+    /// 10: the number that begins at the place, or the coordinate that it leads to, is beyond 32,768 in size.
     TooLarge {
         /// Which byte.
         place: usize,
