@@ -95,7 +95,7 @@ module _ {A : Type 0} where
   put-over (v ∷ vs) ws (x ∷ xs) = ap (λ (l : List A). v ∷ l) (put-over vs ws xs)
 
   -- vs at k, and ws behind them
-  put-append : (k : ℕ) (vs ws xs : List A) → putAt (k + length vs) ws (putAt k vs xs) ≡ putAt k (vs ++ ws) xs
+  pub put-append : (k : ℕ) (vs ws xs : List A) → putAt (k + length vs) ws (putAt k vs xs) ≡ putAt k (vs ++ ws) xs
   unfolding putAt
   put-append zero vs ws xs = let e : 0 + length vs ≡ length vs = omega arith in rw e (put-over vs ws xs)
   put-append (suc k) vs ws [] = let e : suc k + length vs ≡ suc (k + length vs) = omega arith in rw e
