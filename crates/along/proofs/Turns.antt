@@ -12,7 +12,7 @@ use Rattle.along.specs.Points.{visitOf, visited, walked, passed}
 use Rattle.along.proofs.Walking.{passed-next}
 use Rattle.kept.specs.Points.{endpointsOf, endpointAt}
 use Rattle.kept.proofs.Indexed.{points-at}
-use Rattle.strip.specs.Strip.{Has}
+use Rattle.strip.specs.Strip.{StripFits}
 use Rattle.strip.specs.declared.Strip.{Strip}
 use Rattle.strip.proofs.Pending.{Midway, midway-has, midway-put}
 use Rattle.along.specs.Walk.{Walks}
@@ -28,7 +28,7 @@ module _ (sure : Bool) (o : Stroke) (p : List Float) (first i : ℕ) where
     unfolding rest
     here = rw (points-at p first i h, passed-next o sure (w .leg) (endpointAt p first i) (drop (i + 1) (endpointsOf first p))) at m
 
-    pub visit-has : Has write s₀ js₀ l₀ → Has write (w .strip) (visited sure o (w .leg) (endpointAt p first i)) l
+    pub visit-has : StripFits write s₀ js₀ l₀ → StripFits write (w .strip) (visited sure o (w .leg) (endpointAt p first i)) l
     visit-has has = midway-has (visited sure o (w .leg) (endpointAt p first i)) (rest w) has here
 
     pub visit-turn : {r : Walk} {l' : Lists} → Walks write (visited sure o (w .leg) (endpointAt p first i)) (visitOf sure o (w .leg) (endpointAt p first i)) w l l' r

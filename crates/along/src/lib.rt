@@ -15,7 +15,7 @@ use kept::near::is_near;
 use options::Stroke;
 use pieces::Index;
 use strip::Strip;
-use strip::put_joint;
+use strip::lay_joint;
 use strip::step;
 ghost use mathlib.Core.List.{[], _∷_};
 ghost use mathlib.Core.Path.{_≡_};
@@ -27,7 +27,7 @@ ghost use Rattle.joints.specs.Leg.{nextLegOf};
 ghost use Rattle.join.specs.Record.{countsOf};
 ghost use Rattle.kept.specs.Points.{endpointsOf};
 ghost use Rattle.pieces.specs.Piece.{lent, Lays};
-ghost use Rattle.strip.specs.Strip.{Has, pieceOf};
+ghost use Rattle.strip.specs.Strip.{StripFits, pieceOf};
 ghost use Rattle.along.specs.Points.{advanced, drops, visitOf, visited, walked, passed};
 ghost use Rattle.along.specs.Walk.{Walks};
 
@@ -66,13 +66,13 @@ fn pass_joint(
     strip: Strip,
     next: Leg,
 ) -> Counts
-    requires { ⌜ Has (pass .write) strip (jointOf (pass .stroke) leg next ∷ []) (lent (now v) (now t)) ⌝ }
+    requires { ⌜ StripFits (pass .write) strip (jointOf (pass .stroke) leg next ∷ []) (lent (now v) (now t)) ⌝ }
     ensures { λ r. ⌜ r ≡ countsOf (jointOf (pass .stroke) leg next) ⌝ }
     ensures { λ _. ⌜ Lays (pass .write) (strip .place) (pieceOf strip (jointOf (pass .stroke) leg next ∷ [])) (lent (now (v .entry)) (now (t .entry))) (lent (now (v .exit)) (now (t .exit))) ⌝ }
 {
     if pass.write {
         let j = joint_of(pass.stroke, leg, next);
-        put_joint(v, t, strip, j);
+        lay_joint(v, t, strip, j);
         return counts_of(j);
     }
     joint_counts(pass.stroke, leg, next)
@@ -80,7 +80,7 @@ fn pass_joint(
 
 // The next point, which is kept.
 fn pass_kept(v: &mut [f32], t: &mut [Index], pass: Pass, w: Walk, p: Endpoint) -> Walk
-    requires { ⌜ Has (pass .write) (w .strip) (advanced (pass .stroke) (w .leg) p) (lent (now v) (now t)) ⌝ }
+    requires { ⌜ StripFits (pass .write) (w .strip) (advanced (pass .stroke) (w .leg) p) (lent (now v) (now t)) ⌝ }
     ensures { λ r. ⌜ Walks (pass .write) (advanced (pass .stroke) (w .leg) p) (nextLegOf (pass .stroke .«half_width») (w .leg) p) w (lent (now (v .entry)) (now (t .entry))) (lent (now (v .exit)) (now (t .exit))) r ⌝ }
 {
     let o = pass.stroke;
@@ -107,7 +107,7 @@ fn is_dropped(limit: f32, sure: bool, leg: Leg, p: Endpoint) -> bool
 
 // The next point, which may be dropped.
 fn pass_point(v: &mut [f32], t: &mut [Index], pass: Pass, w: Walk, p: Endpoint, sure: bool) -> Walk
-    requires { ⌜ Has (pass .write) (w .strip) (visited sure (pass .stroke) (w .leg) p) (lent (now v) (now t)) ⌝ }
+    requires { ⌜ StripFits (pass .write) (w .strip) (visited sure (pass .stroke) (w .leg) p) (lent (now v) (now t)) ⌝ }
     ensures { λ r. ⌜ Walks (pass .write) (visited sure (pass .stroke) (w .leg) p) (visitOf sure (pass .stroke) (w .leg) p) w (lent (now (v .entry)) (now (t .entry))) (lent (now (v .exit)) (now (t .exit))) r ⌝ }
 {
     let o = pass.stroke;
@@ -120,7 +120,7 @@ fn pass_point(v: &mut [f32], t: &mut [Index], pass: Pass, w: Walk, p: Endpoint, 
 // The points of a stretch.
 fn pass_points(v: &mut [f32], t: &mut [Index], pass: Pass, w: Walk, p: &[f32], s: Stretch) -> Walk
     requires { ⌜ s .first .0 + length (now p) < idLimit ⌝ }
-    requires { ⌜ Has (pass .write) (w .strip) (passed (s .sure) (pass .stroke) (w .leg) (drop (s .from) (endpointsOf (s .first .0) (now p)))) (lent (now v) (now t)) ⌝ }
+    requires { ⌜ StripFits (pass .write) (w .strip) (passed (s .sure) (pass .stroke) (w .leg) (drop (s .from) (endpointsOf (s .first .0) (now p)))) (lent (now v) (now t)) ⌝ }
     ensures { λ r. ⌜ Walks (pass .write) (passed (s .sure) (pass .stroke) (w .leg) (drop (s .from) (endpointsOf (s .first .0) (now (p .entry))))) (walked (s .sure) (pass .stroke) (w .leg) (drop (s .from) (endpointsOf (s .first .0) (now (p .entry))))) w (lent (now (v .entry)) (now (t .entry))) (lent (now (v .exit)) (now (t .exit))) r ⌝ }
 {
     let mut w = w;

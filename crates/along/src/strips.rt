@@ -18,7 +18,7 @@ use pieces::Index;
 use strip::Strip;
 use strip::joint::negative_count;
 use strip::joint::positive_count;
-use strip::lay_joint;
+use strip::lay_joint_if;
 use strip::start;
 use strip::step;
 ghost use mathlib.Core.Bool.{true, false};
@@ -28,7 +28,7 @@ ghost use Rattle.joints.specs.Leg.{firstLegOf};
 ghost use Rattle.joints.specs.Joint.{startCapOf, endCapOf, jointsOf};
 ghost use Rattle.kept.specs.Looks.{runFrom};
 ghost use Rattle.kept.specs.Points.{endpointAt};
-ghost use Rattle.strip.specs.Strip.{Has, Puts, startOf};
+ghost use Rattle.strip.specs.Strip.{StripFits, StripPasses, startOf};
 ghost use Rattle.pieces.specs.Piece.{lent};
 ghost use Rattle.along.specs.Walk.{Walks};
 ghost use Rattle.along.specs.Strips.{Within, roundOf};
@@ -45,16 +45,16 @@ fn first_leg(h: f32, p: &[f32], first: EndpointId, i: usize) -> Leg
 
 // A cap, written or only counted.
 fn pass_cap(v: &mut [f32], t: &mut [Index], write: bool, s: Strip, j: EndpointData) -> Strip
-    requires { ⌜ Has write s (j ∷ []) (lent (now v) (now t)) ⌝ }
-    ensures { λ r. ⌜ Puts write (j ∷ []) s (lent (now (v .entry)) (now (t .entry))) (lent (now (v .exit)) (now (t .exit))) r ⌝ }
+    requires { ⌜ StripFits write s (j ∷ []) (lent (now v) (now t)) ⌝ }
+    ensures { λ r. ⌜ StripPasses write (j ∷ []) s (lent (now (v .entry)) (now (t .entry))) (lent (now (v .exit)) (now (t .exit))) r ⌝ }
 {
-    lay_joint(v, t, s, j, write);
+    lay_joint_if(v, t, s, j, write);
     step(s, positive_count(j), negative_count(j))
 }
 
 // The start cap.
 fn begin(v: &mut [f32], t: &mut [Index], pass: Pass, leg: Leg, base: VertexId) -> Walk
-    requires { ⌜ Has (pass .write) (startOf base) (startCapOf (pass .stroke) leg ∷ []) (lent (now v) (now t)) ⌝ }
+    requires { ⌜ StripFits (pass .write) (startOf base) (startCapOf (pass .stroke) leg ∷ []) (lent (now v) (now t)) ⌝ }
     ensures { λ r. ⌜ Walks (pass .write) (startCapOf (pass .stroke) leg ∷ []) leg (record { leg = leg; strip = startOf base }) (lent (now (v .entry)) (now (t .entry))) (lent (now (v .exit)) (now (t .exit))) r ⌝ }
 {
     let j = start_cap(pass.stroke, leg);
@@ -67,8 +67,8 @@ fn begin(v: &mut [f32], t: &mut [Index], pass: Pass, leg: Leg, base: VertexId) -
 
 // The end cap.
 fn finish(v: &mut [f32], t: &mut [Index], pass: Pass, w: Walk) -> Strip
-    requires { ⌜ Has (pass .write) (w .strip) (endCapOf (pass .stroke) (w .leg) ∷ []) (lent (now v) (now t)) ⌝ }
-    ensures { λ r. ⌜ Puts (pass .write) (endCapOf (pass .stroke) (w .leg) ∷ []) (w .strip) (lent (now (v .entry)) (now (t .entry))) (lent (now (v .exit)) (now (t .exit))) r ⌝ }
+    requires { ⌜ StripFits (pass .write) (w .strip) (endCapOf (pass .stroke) (w .leg) ∷ []) (lent (now v) (now t)) ⌝ }
+    ensures { λ r. ⌜ StripPasses (pass .write) (endCapOf (pass .stroke) (w .leg) ∷ []) (w .strip) (lent (now (v .entry)) (now (t .entry))) (lent (now (v .exit)) (now (t .exit))) r ⌝ }
 {
     let j = end_cap(pass.stroke, w.leg);
     pass_cap(v, t, pass.write, w.strip, j)
@@ -77,8 +77,8 @@ fn finish(v: &mut [f32], t: &mut [Index], pass: Pass, w: Walk) -> Strip
 // An open run: the start cap, the joins, the end cap.
 pub fn pass_open(v: &mut [f32], t: &mut [Index], pass: Pass, p: &[f32], at: At, i: usize) -> Strip
     requires { ⌜ Within (now p) (at .endpoint .0) i ⌝ }
-    requires { ⌜ Has (pass .write) (startOf (at .vertex)) (jointsOf false (pass .stroke) (runFrom (pass .stroke .near) (now p) (at .endpoint .0) i)) (lent (now v) (now t)) ⌝ }
-    ensures { λ r. ⌜ Puts (pass .write) (jointsOf false (pass .stroke) (runFrom (pass .stroke .near) (now (p .entry)) (at .endpoint .0) i)) (startOf (at .vertex)) (lent (now (v .entry)) (now (t .entry))) (lent (now (v .exit)) (now (t .exit))) r ⌝ }
+    requires { ⌜ StripFits (pass .write) (startOf (at .vertex)) (jointsOf false (pass .stroke) (runFrom (pass .stroke .near) (now p) (at .endpoint .0) i)) (lent (now v) (now t)) ⌝ }
+    ensures { λ r. ⌜ StripPasses (pass .write) (jointsOf false (pass .stroke) (runFrom (pass .stroke .near) (now (p .entry)) (at .endpoint .0) i)) (startOf (at .vertex)) (lent (now (v .entry)) (now (t .entry))) (lent (now (v .exit)) (now (t .exit))) r ⌝ }
 {
     let o = pass.stroke;
     let first = at.endpoint;
@@ -96,8 +96,8 @@ pub fn pass_open(v: &mut [f32], t: &mut [Index], pass: Pass, p: &[f32], at: At, 
 // Round to p0 and on to p1, the points 0 and i: the joins n-1 and 0 of a closed run.
 fn go_round(v: &mut [f32], t: &mut [Index], pass: Pass, w: Walk, p: &[f32], on: Stretch) -> Strip
     requires { ⌜ Within (now p) (on .first .0) (on .from) ⌝ }
-    requires { ⌜ Has (pass .write) (w .strip) (roundOf (pass .stroke) (w .leg) (endpointAt (now p) (on .first .0) 0) (endpointAt (now p) (on .first .0) (on .from))) (lent (now v) (now t)) ⌝ }
-    ensures { λ r. ⌜ Puts (pass .write) (roundOf (pass .stroke) (w .leg) (endpointAt (now (p .entry)) (on .first .0) 0) (endpointAt (now (p .entry)) (on .first .0) (on .from))) (w .strip) (lent (now (v .entry)) (now (t .entry))) (lent (now (v .exit)) (now (t .exit))) r ⌝ }
+    requires { ⌜ StripFits (pass .write) (w .strip) (roundOf (pass .stroke) (w .leg) (endpointAt (now p) (on .first .0) 0) (endpointAt (now p) (on .first .0) (on .from))) (lent (now v) (now t)) ⌝ }
+    ensures { λ r. ⌜ StripPasses (pass .write) (roundOf (pass .stroke) (w .leg) (endpointAt (now (p .entry)) (on .first .0) 0) (endpointAt (now (p .entry)) (on .first .0) (on .from))) (w .strip) (lent (now (v .entry)) (now (t .entry))) (lent (now (v .exit)) (now (t .exit))) r ⌝ }
 {
     let first = on.first;
     let i = on.from;
@@ -120,8 +120,8 @@ fn go_round(v: &mut [f32], t: &mut [Index], pass: Pass, w: Walk, p: &[f32], on: 
 // A closed run's joins.
 pub fn pass_closed(v: &mut [f32], t: &mut [Index], pass: Pass, p: &[f32], at: At, i: usize) -> Strip
     requires { ⌜ Within (now p) (at .endpoint .0) i ⌝ }
-    requires { ⌜ Has (pass .write) (startOf (at .vertex)) (jointsOf true (pass .stroke) (runFrom (pass .stroke .near) (now p) (at .endpoint .0) i)) (lent (now v) (now t)) ⌝ }
-    ensures { λ r. ⌜ Puts (pass .write) (jointsOf true (pass .stroke) (runFrom (pass .stroke .near) (now (p .entry)) (at .endpoint .0) i)) (startOf (at .vertex)) (lent (now (v .entry)) (now (t .entry))) (lent (now (v .exit)) (now (t .exit))) r ⌝ }
+    requires { ⌜ StripFits (pass .write) (startOf (at .vertex)) (jointsOf true (pass .stroke) (runFrom (pass .stroke .near) (now p) (at .endpoint .0) i)) (lent (now v) (now t)) ⌝ }
+    ensures { λ r. ⌜ StripPasses (pass .write) (jointsOf true (pass .stroke) (runFrom (pass .stroke .near) (now (p .entry)) (at .endpoint .0) i)) (startOf (at .vertex)) (lent (now (v .entry)) (now (t .entry))) (lent (now (v .exit)) (now (t .exit))) r ⌝ }
 {
     let o = pass.stroke;
     let first = at.endpoint;

@@ -49,7 +49,7 @@ neither a b p q = rw (p, q)
 
 module _ (limit h start : Float) (a b : Endpoint) (least : Limit limit) (half : Half h) (from : Inside (a .position)) (to : Inside (b .position)) where
   pub not-short : nearOf limit (a .position) (b .position) ≡ false → shortOf (legOf h start a b) ≡ false
-  unfolding shortOf legOf edgeOf edgeSideOf vector.plusOf vector.minusOf vector.timesOf vector.overOf vector.turnedOf vector.squareLengthOf vector.lengthOf sub
+  unfolding shortOf legOf edgeOf edgeSideOf vector.plusOf vector.minusOf vector.timesOf vector.dividedOf vector.turnedOf vector.squareLengthOf vector.lengthOf sub
   not-short e =
       let G = gap-x from to in
       let H = gap-y from to in

@@ -4,14 +4,14 @@ use mathlib.Core.Bool.{Bool, _||_}
 use lib.Ieee.{Float, eq}
 use Rattle.plane.specs.F32.{_⊖_, _⊘_, f32, sizeBelow}
 use Rattle.plane.specs.Normal.{pick}
-use Rattle.plane.specs.Vector.{plusOf, timesOf, overOf, turnedOf, dotOf, lengthOf, normalizeOf}
+use Rattle.plane.specs.Vector.{plusOf, timesOf, dividedOf, turnedOf, dotOf, lengthOf, normalizeOf}
 use Rattle.plane.specs.declared.vector.Point.{Point}
 use Rattle.join.specs.declared.clip.Clipped.{Clipped}
 use Rattle.join.specs.declared.clip.SideLine.{SideLine}
 
 -- "d is (-a.y, a.x) divided by its length"
 unfoldable pub sideLineOf : Point → SideLine
-sideLineOf a = let side = turnedOf a in record { length = lengthOf side; d = overOf side (lengthOf side) }
+sideLineOf a = let side = turnedOf a in record { length = lengthOf side; d = dividedOf side (lengthOf side) }
 
 unfoldable pub unmovedOf : Float → Float → Bool
 unmovedOf length along = eq length (f32 0) || sizeBelow along (f32 0x3a800000)

@@ -1,9 +1,9 @@
 // Rule 6: where a side is cut off beyond the limit.
 use plane::vector::Point;
+use plane::vector::divided;
 use plane::vector::dot;
 use plane::vector::length;
 use plane::vector::normalize;
-use plane::vector::over;
 use plane::vector::plus;
 use plane::vector::times;
 use plane::vector::turned;
@@ -23,7 +23,7 @@ fn side_line(a: Point) -> SideLine
     let l = length(side);
     SideLine {
         length: l,
-        d: over(side, l),
+        d: divided(side, l),
     }
 }
 

@@ -1,10 +1,10 @@
 // Edges and their sides (rule 4). Both sides' directions belong to the edge, so they are had once
 // and serve the joins at both its ends.
 use plane::vector::Point;
+use plane::vector::divided;
 use plane::vector::length;
 use plane::vector::minus;
 use plane::vector::normalize;
-use plane::vector::over;
 use plane::vector::plus;
 use plane::vector::times;
 use plane::vector::turned;
@@ -40,7 +40,7 @@ pub fn edge_of(from: Point, to: Point, h: f32) -> Edge
 {
     let d = minus(to, from);
     let l = length(d);
-    let t = over(d, l);
+    let t = divided(d, l);
     let offset = times(turned(t), h);
     Edge {
         length: l,

@@ -14,7 +14,7 @@ use Rattle.refusals.specs.declared.Refusal.the-variants.{OutOfRange, TooManyVer
 use Rattle.plane.specs.Normal.{pick}
 use Rattle.endpoint.specs.declared.Endpoint.{Endpoint}
 use Rattle.lists.specs.Over.{over}
-use Rattle.pieces.specs.Piece.{flatV, flatT, behind, Lists, lent, Fits, Puts}
+use Rattle.pieces.specs.Piece.{flatV, flatT, behind, Lists, lent, Fits, Passes}
 use Rattle.pieces.specs.declared.Place.{Place}
 use Rattle.pieces.proofs.Pieces.{laid-start}
 use Rattle.path.specs.Path.{Sound}
@@ -84,7 +84,7 @@ module _ (o : Stroke) (rs : List (Run Endpoint)) where
   counts-are : (k : Place) → k ≡ behind undrawn (meshPiece o undrawn rs) → (k .vertices ≡ meshCount o rs) × (k .triangles ≡ length (meshTriangles o 0 rs))
   counts-are k e = rw e (omega (arith, length-vertices o rs), omega arith)
 
-  drawn-is : {l l' : Lists} {k : Place} → Puts true undrawn (meshPiece o undrawn rs) l l' k → l' ≡ lent (over (flatV (meshVertices o rs)) (l .vertices)) (over (flatT (meshTriangles o 0 rs)) (l .triangles))
+  drawn-is : {l l' : Lists} {k : Place} → Passes true undrawn (meshPiece o undrawn rs) l l' k → l' ≡ lent (over (flatV (meshVertices o rs)) (l .vertices)) (over (flatT (meshTriangles o 0 rs)) (l .triangles))
   drawn-is {l} e = e .lists refl ∙ laid-start (undrawn .base) (meshPiece o undrawn rs) l
 
 -- it is a mesh only where there is room for both
@@ -120,7 +120,7 @@ module _ (o : Stroke) (vs : List ℕ) (cs : List Float) (s : Sound vs cs) (p : P
     pub plenty-fits : Fits true undrawn (meshPiece o undrawn (runsOf vs cs)) l
     plenty-fits = room-fits o vs cs s l v-room t-room
 
-    pub plenty-drawn : {l' : Lists} {k : Place} → Puts true undrawn (meshPiece o undrawn (runsOf vs cs)) l l' k
+    pub plenty-drawn : {l' : Lists} {k : Place} → Passes true undrawn (meshPiece o undrawn (runsOf vs cs)) l l' k
         → record { answer = meshAnswerOf (Mesh (k .vertices) (k .triangles)); lists = l' } ≡ outcome
     unfolding acceptedOf
     plenty-drawn {l'} {k} e =
@@ -140,7 +140,7 @@ module _ (o : Stroke) (vs : List ℕ) (cs : List Float) (s : Sound vs cs) (p : P
         let r = roomed-room (c .vertices) (c .triangles) (length (l .vertices) / 5) (length (l .triangles) / 3) (ap isMesh (sym j) ∙ e) in
         rw (k .lists) (room-fits o vs cs s l (omega (arith, r .0, count .0)) (omega (arith, r .1, count .1)))
 
-    pub is-drawn : isMesh a ≡ true → {l2 : Lists} {d : Place} → Puts true undrawn (meshPiece o undrawn (runsOf vs cs)) l1 l2 d → record { answer = a; lists = l2 } ≡ outcome
+    pub is-drawn : isMesh a ≡ true → {l2 : Lists} {d : Place} → Passes true undrawn (meshPiece o undrawn (runsOf vs cs)) l1 l2 d → record { answer = a; lists = l2 } ≡ outcome
     unfolding acceptedOf
     is-drawn e q = rw (answer-is, ap isMesh (sym answer-is) ∙ e, drawn-is o (runsOf vs cs) q, k .lists)
 
@@ -154,7 +154,7 @@ none-back xs [] e = refl
 none-back xs (y ∷ ys) e = absurd (omega (arith, e))
 
 pub counted : (o : Stroke) (rs : List (Run Endpoint)) (v v2 : List Float) (t t2 : List ℕ) {l1 : Lists} {k : Place} → length v2 ≡ 0 → length t2 ≡ 0
-    → Puts false undrawn (meshPiece o undrawn rs) l1 (lent v2 t2) k → Counted o rs (lent v t) (lent (v2 ++ v) (t2 ++ t)) k
+    → Passes false undrawn (meshPiece o undrawn rs) l1 (lent v2 t2) k → Counted o rs (lent v t) (lent (v2 ++ v) (t2 ++ t)) k
 counted o rs v v2 t t2 lv lt e = record { place = e .place; lists = rw (none-back v v2 lv, none-back t t2 lt) }
 
 -- ---- refusals 1 to 4, whatever would come then

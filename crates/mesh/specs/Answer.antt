@@ -3,7 +3,7 @@ use Prim.Native.Nat.{ℕ, _*_, _≤_}
 use mathlib.Core.Bool.{Bool, cond}
 use lib.Dec.{ltb, eqb}
 use Rattle.refusals.specs.Numbers.{numberOf, verdictOf, accepted, shortEdge, vertexRoom, triangleRoom}
-use Rattle.runs.specs.Runs.{Count}
+use Rattle.runs.specs.Runs.{Tally}
 use Rattle.mesh.specs.declared.answer.Meshed.{Meshed}
 use Rattle.mesh.specs.declared.answer.Meshed.the-variants.{Mesh, Refused, ShortEdge, VertexRoom, TriangleRoom}
 use Rattle.mesh.specs.declared.answer.MeshAnswer.{MeshAnswer}
@@ -35,7 +35,7 @@ roomedOf n m vertexPlaces trianglePlaces =
     (cond (ltb trianglePlaces m) (withCounts (numberOf triangleRoom) n m) (withCounts (numberOf accepted) n m))
 
 -- Refusals 5, 6 and 7, in their order, for an accepted path: a short edge, or too little room
-unfoldable pub judgedOf : Count → ℕ → ℕ → MeshAnswer
+unfoldable pub judgedOf : Tally → ℕ → ℕ → MeshAnswer
 judgedOf c vertexPlaces trianglePlaces =
     cond (ltb (c .short) (c .legs)) (withPlace (numberOf shortEdge) (c .short)) (roomedOf (c .vertices) (c .triangles) vertexPlaces trianglePlaces)
 

@@ -18,7 +18,7 @@ use Rattle.joints.specs.Joint.{jointsOf}
 use Rattle.kept.specs.Kept.{keptPoints}
 use Rattle.pieces.specs.Piece.{Lists, flatV, flatT}
 use Rattle.strip.specs.Joint.{pairSides}
-use Rattle.run.specs.Facts.{Counts, Covers}
+use Rattle.run.specs.Facts.{RunCounts, Covers}
 use Rattle.run.specs.Run.{drawsCap, shapeCount, shapeTriangles}
 use Rattle.runs.specs.Runs.{runsOf, drawnOf, meshVertices, meshCount, meshTriangles}
 use Rattle.mesh.specs.Answer.{withCounts}
@@ -29,12 +29,12 @@ pub record EarnsNone (verbs : List ℕ) (coords : List Float) (options : Options
   pub within : strokeOf options ≡ accepting o
   pub accepted : checkedOf verbs coords .number ≡ numberOf accepted
 
--- "Counts follow from the join rules alone": by the points kept, their pair sides and, where one is kept, whether it draws the empty cap (a run has a line verb
+-- "RunCounts follow from the join rules alone": by the points kept, their pair sides and, where one is kept, whether it draws the empty cap (a run has a line verb
 -- where it has more than one point); "each triangle names three different vertices of its run, every vertex is named, each triangle but a run's first shares
 -- exactly two vertices with the one before." A run whose vertices are numbered from base.
 pub record RunStands (o : Stroke) (base : ℕ) (r : Run Endpoint) : Type 0 where
   pub counts : let kept = keptPoints (o .near) (r .closed) (r .points) in
-      Counts (r .closed) (drawsCap (o .cap) (r .closed) (ltb 1 (length (r .points)))) (length kept) (pairSides (jointsOf (r .closed) o kept))
+      RunCounts (r .closed) (drawsCap (o .cap) (r .closed) (ltb 1 (length (r .points)))) (length kept) (pairSides (jointsOf (r .closed) o kept))
       (shapeCount (drawnOf o r)) (length (shapeTriangles (r .closed) base (drawnOf o r)))
   pub covers : Covers base (base + shapeCount (drawnOf o r)) (shapeTriangles (r .closed) base (drawnOf o r))
 

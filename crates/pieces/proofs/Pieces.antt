@@ -11,7 +11,7 @@ use lib.ListN.{length, length-append, length-drop}
 use Rattle.endpoint.specs.declared.VertexId.{VertexId}
 use Rattle.lists.specs.Over.{over, putAt, flat}
 use Rattle.triangles.specs.Tri.{Tri, numbersOf}
-use Rattle.pieces.specs.Piece.{Vertex, floatsOf, flatV, flatT, Piece, none, joined, behind, anew, Lists, lent, laid, Fits, Puts}
+use Rattle.pieces.specs.Piece.{Vertex, floatsOf, flatV, flatT, Piece, none, joined, behind, anew, Lists, lent, laid, Fits, Passes}
 use Rattle.pieces.specs.declared.Place.{Place}
 use Rattle.lists.proofs.Parts.{part-is, put-part}
 use Rattle.lists.proofs.Laws.{put-start, put-none, length-put, length-flat, put-flat}
@@ -60,11 +60,11 @@ laid-parts k p v v' t t' h ev et =
     rw (put-part v v' (flatV (p .vertices)) (5 * k .vertices) (omega (arith, h .vertices refl)) ev, put-part t t' (flatT (p .triangles)) (3 * k .triangles) (omega (arith, h .triangles refl)) et)
 
 -- ---- passes
-pub puts-none : {write : Bool} {k : Place} {l : Lists} → Puts write k none l l k
+pub puts-none : {write : Bool} {k : Place} {l : Lists} → Passes write k none l l k
 puts-none {write} {k} {l} = record { place = sym (behind-none k); lists = λ w. sym (laid-none k l) }
 
 module _ {write : Bool} {k : Place} {l : Lists} where
-  pub puts-both : {p q : Piece} {l1 l2 : Lists} {k1 k2 : Place} → Puts write k p l l1 k1 → Puts write k1 q l1 l2 k2 → Puts write k (joined p q) l l2 k2
+  pub puts-both : {p q : Piece} {l1 l2 : Lists} {k1 k2 : Place} → Passes write k p l l1 k1 → Passes write k1 q l1 l2 k2 → Passes write k (joined p q) l l2 k2
   puts-both {p} {q} e f = record {
     place = f .place ∙ rw (e .place) (sym (behind-joined k p q));
     lists = λ w. f .lists w ∙ rw (e .place, e .lists w) (laid-joined k p q l);
@@ -76,7 +76,7 @@ module _ {write : Bool} {k : Place} {l : Lists} where
       let b = length-append (p .triangles) (q .triangles) in
       record { numbers = omega (arith, h .numbers); faces = omega (arith, h .faces); vertices = λ w. omega (arith, h .vertices w); triangles = λ w. omega (arith, h .triangles w) }
 
-  pub fits-back : (p q : Piece) → Fits write k (joined p q) l → {l1 : Lists} {k1 : Place} → Puts write k p l l1 k1 → Fits write k1 q l1
+  pub fits-back : (p q : Piece) → Fits write k (joined p q) l → {l1 : Lists} {k1 : Place} → Passes write k p l l1 k1 → Fits write k1 q l1
   fits-back p q h e =
       let a = length-append (p .vertices) (q .vertices) in
       let b = length-append (p .triangles) (q .triangles) in
@@ -121,8 +121,8 @@ module _ (k : Place) (p : Piece) (v : List Float) (t : List ℕ) where
       rw (e, a, b)
 
   pub parts-put : (write : Bool) → Fits write k p (lent v t) → (v' : List Float) (t' : List ℕ) (r : Place)
-      → Puts write (anew k) p (parts (cond write (5 * k .vertices) 0) (cond write (3 * k .triangles) 0)) (lent v' t') r
-      → Puts write k p (lent v t) (whole (cond write (5 * k .vertices) 0) (cond write (3 * k .triangles) 0) v' t') (reached r)
+      → Passes write (anew k) p (parts (cond write (5 * k .vertices) 0) (cond write (3 * k .triangles) 0)) (lent v' t') r
+      → Passes write k p (lent v t) (whole (cond write (5 * k .vertices) 0) (cond write (3 * k .triangles) 0) v' t') (reached r)
   parts-put true f v' t' r e =
       let l = e .lists refl ∙ laid-start (anew k .base) p (parts (5 * k .vertices) (3 * k .triangles)) in
       record { place = place-is r (e .place); lists = λ _. laid-parts k p v v' t t' f (ap (λ (x : Lists). x .vertices) l) (ap (λ (x : Lists). x .triangles) l) }

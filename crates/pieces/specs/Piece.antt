@@ -81,6 +81,6 @@ abbrev pub Lays : Bool → Place → Piece → Lists → Lists → Type 0
 Lays write k p l l' = write ≡ true → l' ≡ laid k p l
 
 -- what it does, from the place k to k'
-pub record Puts (write : Bool) (k : Place) (p : Piece) (l l' : Lists) (k' : Place) : Type 0 where
+pub record Passes (write : Bool) (k : Place) (p : Piece) (l l' : Lists) (k' : Place) : Type 0 where
   pub place : k' ≡ behind k p
   pub lists : Lays write k p l l'

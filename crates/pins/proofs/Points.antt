@@ -14,7 +14,7 @@ use Rattle.endpoint.specs.declared.EndpointData.{EndpointData}
 use Rattle.window.specs.Answer.{gotOf}
 use Rattle.window.specs.Window.{lastThree, lastReplaced}
 use Rattle.root.specs.Compute.{rootAnswer, floorRoot, partsRoot, bitsRoot, rootOf}
-use Rattle.plane.specs.Vector.{point, plusOf, minusOf, timesOf, overOf, negatedOf, turnedOf, dotOf, crossOf, squareLengthOf, lengthOf, normalizeOf}
+use Rattle.plane.specs.Vector.{point, plusOf, minusOf, timesOf, dividedOf, negatedOf, turnedOf, dotOf, crossOf, squareLengthOf, lengthOf, normalizeOf}
 use Rattle.endpoint.specs.Endpoint.{singleOf, pairOf}
 use Rattle.join.specs.Clip.{sideLineOf, unmovedOf, movedOf, clippedOf}
 use Rattle.join.specs.Edge.{edgeSideOf, edgeOf}
@@ -167,7 +167,7 @@ unfolding leadingZeros add sub mul div neg lt eq ne le ofBits toBits floorRoot p
 arithmetic = tt
 
 vectors : Unit {0}
-unfolding plusOf minusOf timesOf overOf negatedOf turnedOf dotOf crossOf squareLengthOf lengthOf normalizeOf normalOf
+unfolding plusOf minusOf timesOf dividedOf negatedOf turnedOf dotOf crossOf squareLengthOf lengthOf normalizeOf normalOf
 vectors = tt
 
 joins : Unit {0}

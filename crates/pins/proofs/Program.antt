@@ -4,7 +4,7 @@ use lib.Count.{leadingZeros}
 use lib.Ieee.{sub, mul, div, le, ofBits, toBits, ofInt, lt, neg, round}
 use Rattle.lists.specs.Over.{over, flat}
 use Rattle.root.specs.Compute.{floorRoot, partsRoot, bitsRoot, rootOf}
-use Rattle.plane.specs.Vector.{plusOf, minusOf, timesOf, overOf, negatedOf, turnedOf, squareLengthOf, lengthOf}
+use Rattle.plane.specs.Vector.{plusOf, minusOf, timesOf, dividedOf, negatedOf, turnedOf, squareLengthOf, lengthOf}
 use Rattle.endpoint.specs.Endpoint.{singleOf}
 use Rattle.join.specs.Edge.{edgeSideOf, edgeOf}
 use Rattle.vertices.specs.Base.{baseVertexOf, sideVerticesOf}
@@ -37,7 +37,7 @@ unfolding leadingZeros sub mul div neg lt le round ofBits toBits ofInt floorRoot
 arithmetic = tt
 
 vectors : Unit {0}
-unfolding plusOf minusOf timesOf overOf negatedOf turnedOf squareLengthOf lengthOf
+unfolding plusOf minusOf timesOf dividedOf negatedOf turnedOf squareLengthOf lengthOf
 vectors = tt
 
 joins : Unit {0}

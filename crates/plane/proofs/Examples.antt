@@ -8,7 +8,7 @@ use lib.Dec.{eqb}
 use lib.Ieee.{binary32, add, sub, mul, div, neg, lt, le, ofBits, toBits}
 use Rattle.root.specs.Compute.{floorRoot, partsRoot, bitsRoot, rootOf}
 use Rattle.plane.specs.F32.{f32}
-use Rattle.plane.specs.Vector.{point, plusOf, overOf, turnedOf, dotOf, squareLengthOf, lengthOf, normalizeOf}
+use Rattle.plane.specs.Vector.{point, plusOf, dividedOf, turnedOf, dotOf, squareLengthOf, lengthOf, normalizeOf}
 use Rattle.plane.specs.Normal.{normalOf, inDomain, computeNormalOf}
 use Rattle.plane.specs.declared.normal.NormalAnswer.{NormalAnswer}
 
@@ -47,5 +47,5 @@ cases =
     ∷ []
 
 pub worked : every cases ≡ true
-unfolding every says cases computeNormalOf normalOf inDomain plusOf overOf turnedOf dotOf squareLengthOf lengthOf normalizeOf rootOf bitsRoot partsRoot floorRoot leadingZeros add sub mul div neg lt le ofBits toBits
+unfolding every says cases computeNormalOf normalOf inDomain plusOf dividedOf turnedOf dotOf squareLengthOf lengthOf normalizeOf rootOf bitsRoot partsRoot floorRoot leadingZeros add sub mul div neg lt le ofBits toBits
 worked = refl

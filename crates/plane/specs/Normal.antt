@@ -3,7 +3,7 @@ use mathlib.Core.Bool.{Bool, true, false, _&&_}
 use lib.Ieee.{Float, lt}
 use Rattle.refusals.specs.Numbers.{numberOf, accepted, badCoordinate}
 use Rattle.plane.specs.F32.{f32, sizeBelow, sizeAtMost}
-use Rattle.plane.specs.Vector.{point, plusOf, overOf, turnedOf, dotOf, squareLengthOf, normalizeOf}
+use Rattle.plane.specs.Vector.{point, plusOf, dividedOf, turnedOf, dotOf, squareLengthOf, normalizeOf}
 use Rattle.plane.specs.declared.vector.Point.{Point}
 use Rattle.plane.specs.declared.normal.JoinDirection.{JoinDirection}
 use Rattle.plane.specs.declared.normal.JoinDirection.the-variants.{Normal, Refused}
@@ -27,7 +27,7 @@ normalOf v1 v2 =
     let v12 = plusOf v1 v2 in
     let n = turnedOf (normalizeOf v12) in
     let inverse = dotOf n n1 in
-    pick (lt (squareLengthOf v12) epsilon) (point (f32 0) (f32 0)) (pick (sizeBelow inverse epsilon) n1 (overOf n inverse))
+    pick (lt (squareLengthOf v12) epsilon) (point (f32 0) (f32 0)) (pick (sizeBelow inverse epsilon) n1 (dividedOf n inverse))
 
 unfoldable pub inDomain : Point → Bool
 inDomain v = sizeAtMost (v .x) two && sizeAtMost (v .y) two

@@ -16,8 +16,8 @@ minusOf a b = point (a .x ⊖ b .x) (a .y ⊖ b .y)
 unfoldable pub timesOf : Point → Float → Point
 timesOf a k = point (a .x ⊗ k) (a .y ⊗ k)
 
-unfoldable pub overOf : Point → Float → Point
-overOf a k = point (a .x ⊘ k) (a .y ⊘ k)
+unfoldable pub dividedOf : Point → Float → Point
+dividedOf a k = point (a .x ⊘ k) (a .y ⊘ k)
 
 unfoldable pub negatedOf : Point → Point
 negatedOf a = point (neg (a .x)) (neg (a .y))
@@ -39,4 +39,4 @@ unfoldable pub lengthOf : Point → Float
 lengthOf a = rootOf (squareLengthOf a)
 
 unfoldable pub normalizeOf : Point → Point
-normalizeOf a = overOf a (lengthOf a)
+normalizeOf a = dividedOf a (lengthOf a)

@@ -1,8 +1,8 @@
 // lyon's `compute_normal`, the join's direction.
 use crate::vector::Point;
+use crate::vector::divided;
 use crate::vector::dot;
 use crate::vector::normalize;
-use crate::vector::over;
 use crate::vector::plus;
 use crate::vector::square_length;
 use crate::vector::turned;
@@ -48,7 +48,7 @@ pub fn join_normal(v1: Point, v2: Point) -> Point
     if is_small(inv_len) {
         return n1;
     }
-    over(n, inv_len)
+    divided(n, inv_len)
 }
 
 fn is_at_most_two(x: f32) -> bool

@@ -2,7 +2,7 @@
 use root::Rooted;
 ghost use mathlib.Core.Path.{_≡_};
 ghost use Rattle.root.specs.Compute.{rootOf};
-ghost use Rattle.plane.specs.Vector.{plusOf, minusOf, timesOf, overOf, negatedOf, turnedOf, dotOf, crossOf, squareLengthOf, lengthOf, normalizeOf};
+ghost use Rattle.plane.specs.Vector.{plusOf, minusOf, timesOf, dividedOf, negatedOf, turnedOf, dotOf, crossOf, squareLengthOf, lengthOf, normalizeOf};
 
 // A point, or a vector from one to another.
 pub struct Point {
@@ -37,8 +37,8 @@ pub fn times(a: Point, k: f32) -> Point
     }
 }
 
-pub fn over(a: Point, k: f32) -> Point
-    ensures { λ r. ⌜ r ≡ overOf a k ⌝ }
+pub fn divided(a: Point, k: f32) -> Point
+    ensures { λ r. ⌜ r ≡ dividedOf a k ⌝ }
 {
     Point {
         x: a.x / k,
@@ -97,5 +97,5 @@ pub fn length(a: Point) -> f32
 pub fn normalize(a: Point) -> Point
     ensures { λ r. ⌜ r ≡ normalizeOf a ⌝ }
 {
-    over(a, root_value(square_length(a)))
+    divided(a, root_value(square_length(a)))
 }

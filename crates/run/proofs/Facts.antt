@@ -24,7 +24,7 @@ use Rattle.strip.proofs.Facts.Counts.{vertices-are, open-count, closed-count}
 use Rattle.strip.proofs.Facts.Owns.{open-own, closed-own}
 use Rattle.strip.proofs.Facts.Named.{open-named, closed-named}
 use Rattle.strip.proofs.Facts.Shares.{in-a, in-b, in-c, in-none, open-linked, closed-linked}
-use Rattle.run.specs.Facts.{Numbers, Alone, Counts, Covers}
+use Rattle.run.specs.Facts.{Numbers, Alone, RunCounts, Covers}
 use Rattle.run.specs.Run.{nothing, emptyCap, drawsCap, shapeOfKept, shapeOf, shapeCount, shapeTriangles}
 
 -- ---- a strip of two joints or more
@@ -83,7 +83,7 @@ module _ (o : Stroke) (closed : Bool) (base : ℕ) (ps : List Endpoint) where
 
 -- n points kept, d pair sides
 kept-counts : (o : Stroke) (closed lines : Bool) (base : ℕ) (ks : List Endpoint)
-    → Counts closed (drawsCap (o .cap) closed lines) (length ks) (pairSides (jointsOf closed o ks)) (shapeCount (shapeOfKept o closed lines ks)) (length (shapeTriangles closed base (shapeOfKept o closed lines ks)))
+    → RunCounts closed (drawsCap (o .cap) closed lines) (length ks) (pairSides (jointsOf closed o ks)) (shapeCount (shapeOfKept o closed lines ks)) (length (shapeTriangles closed base (shapeOfKept o closed lines ks)))
 unfolding shapeCount shapeTriangles
 kept-counts o closed lines base [] = (refl, refl)
 kept-counts o closed lines base (p ∷ []) = go (drawsCap (o .cap) closed lines)
@@ -97,7 +97,7 @@ kept-counts o closed lines base (p ∷ q ∷ ks) =
 
 module _ (o : Stroke) (closed : Bool) (base : ℕ) (ps : List Endpoint) where
   pub run-counts : let kept = keptPoints (o .near) closed ps in
-      Counts closed (drawsCap (o .cap) closed (ltb 1 (length ps))) (length kept) (pairSides (jointsOf closed o kept)) (shapeCount (shapeOf o closed ps)) (length (shapeTriangles closed base (shapeOf o closed ps)))
+      RunCounts closed (drawsCap (o .cap) closed (ltb 1 (length ps))) (length kept) (pairSides (jointsOf closed o kept)) (shapeCount (shapeOf o closed ps)) (length (shapeTriangles closed base (shapeOf o closed ps)))
   unfolding shapeOf
   run-counts = kept-counts o closed (ltb 1 (length ps)) base (keptPoints (o .near) closed ps)
 
@@ -129,7 +129,7 @@ kept-within o closed lines base (p ∷ q ∷ ks) =
     numbers-few closed (length (p ∷ q ∷ ks)) (pairSides js) _ _ (omega (arith, pairs-few js)) (kept-counts o closed lines base (p ∷ q ∷ ks))
 
 -- the counts of n points say how many triangles there are
-counts-same : (closed cap : Bool) (n d v t u : ℕ) → Counts closed cap n d v t → Counts closed cap n d v u → t ≡ u
+counts-same : (closed cap : Bool) (n d v t u : ℕ) → RunCounts closed cap n d v t → RunCounts closed cap n d v u → t ≡ u
 counts-same closed cap zero d v t u e f = e .1 ∙ sym (f .1)
 counts-same closed cap (suc zero) d v t u e f = e .triangles ∙ sym (f .triangles)
 counts-same closed cap (suc (suc n)) d v t u e f = e .triangles ∙ sym (f .triangles)

@@ -19,7 +19,7 @@ use Rattle.vertices.proofs.Laws.{length-cap}
 use Rattle.lists.specs.Over.{over}
 use Rattle.lists.proofs.Parts.{part-is, put-part}
 use Rattle.pieces.specs.Limits.{numberLimit}
-use Rattle.pieces.specs.Piece.{flatV, flatT, Piece, joined, behind, from, Lists, lent, laid, Fits, Puts, Lays}
+use Rattle.pieces.specs.Piece.{flatV, flatT, Piece, joined, behind, from, Lists, lent, laid, Fits, Passes, Lays}
 use Rattle.pieces.specs.declared.Place.{Place}
 use Rattle.pieces.proofs.Pieces.{puts-both, fits-front, fits-back, laid-triangles, laid-start}
 use Rattle.pieces.proofs.Pieces as pieces
@@ -33,7 +33,7 @@ use Rattle.kept.proofs.Indexed.{points-length}
 use Rattle.kept.proofs.Looks.{kept-far, kept-alone, kept-ended}
 use Rattle.along.specs.declared.Pass.{Pass}
 use Rattle.strip.specs.Joint.{vertexCount, verticesOf}
-use Rattle.strip.specs.Strip.{Has, startOf, stepsOf, pieceOf}
+use Rattle.strip.specs.Strip.{StripFits, startOf, stepsOf, pieceOf}
 use Rattle.strip.specs.Strip as strip
 use Rattle.strip.specs.Triangle.{between, trianglesOf}
 use Rattle.strip.specs.declared.Strip.{Strip}
@@ -56,13 +56,13 @@ module _ (o : Stroke) (base : VertexId) (js : List EndpointData) where
   closed-is = rw (triangles-are true base js, append-nil (verticesOf js))
 
   module _ {write : Bool} {l : Lists} where
-    pub open-has : Fits write (from base) (shapePiece o false base (along js)) l → Has write (startOf base) js l
+    pub open-has : Fits write (from base) (shapePiece o false base (along js)) l → StripFits write (startOf base) js l
     open-has h = record { sound = sound-start base; fits = rw open-is at h }
 
-    pub closed-has : Fits write (from base) (shapePiece o true base (along js)) l → Has write (startOf base) js l
+    pub closed-has : Fits write (from base) (shapePiece o true base (along js)) l → StripFits write (startOf base) js l
     closed-has h = record { sound = sound-start base; fits = fits-front (pieceOf (startOf base) js) (roundPiece (stepsOf (startOf base) js)) (rw closed-is at h) }
 
-    pub open-drawn : {l' : Lists} {s : Strip} → strip.Puts write js (startOf base) l l' s → Puts write (from base) (shapePiece o false base (along js)) l l' (s .place)
+    pub open-drawn : {l' : Lists} {s : Strip} → strip.StripPasses write js (startOf base) l l' s → Passes write (from base) (shapePiece o false base (along js)) l l' (s .place)
     open-drawn e = rw open-is (puts-piece e)
 
 -- ---- round to the first section
@@ -87,7 +87,7 @@ module _ (o : Stroke) (p q : Endpoint) (ks : List Endpoint) where
   abbrev js : List EndpointData
   js = jointsOf true o (p ∷ q ∷ ks)
 
-  module _ {write : Bool} {base : VertexId} {l : Lists} {v1 : List Float} {t1 : List ℕ} {s : Strip} (h : Fits write (from base) (shapePiece o true base (along js)) l) (e : strip.Puts write js (startOf base) l (lent v1 t1) s) where
+  module _ {write : Bool} {base : VertexId} {l : Lists} {v1 : List Float} {t1 : List ℕ} {s : Strip} (h : Fits write (from base) (shapePiece o true base (along js)) l) (e : strip.StripPasses write js (startOf base) l (lent v1 t1) s) where
     is-round : shapePiece o true base (along js) ≡ joined (pieceOf (startOf base) js) (roundPiece s)
     is-round = rw (e .state) (closed-is o base js)
 
@@ -102,10 +102,10 @@ module _ (o : Stroke) (p q : Endpoint) (ks : List Endpoint) where
     }
 
     pub closed-drawn : (t2 : List ℕ) → (write ≡ true → t2 ≡ roundedOf s t1)
-        → Puts write (from base) (shapePiece o true base (along js)) l (lent v1 t2) (record { base = s .place .base; vertices = s .place .vertices; triangles = s .place .vertices })
+        → Passes write (from base) (shapePiece o true base (along js)) l (lent v1 t2) (record { base = s .place .base; vertices = s .place .vertices; triangles = s .place .vertices })
     unfolding shapeVertices shapeTriangles
     closed-drawn t2 et =
-        let b : Puts write (from base) (joined (pieceOf (startOf base) js) (roundPiece s)) l (lent v1 t2) (behind (s .place) (roundPiece s)) =
+        let b : Passes write (from base) (joined (pieceOf (startOf base) js) (roundPiece s)) l (lent v1 t2) (behind (s .place) (roundPiece s)) =
         puts-both (puts-piece e) (record { place = refl; lists = λ w. laid-triangles (s .place) (between (s .last) (s .first)) v1 t1 t2 (et w) }) in
         let z = puts-piece e .place in
         let m : 0 + length (verticesOf js) ≡ 0 + length (trianglesOf true (base .0) js) = omega (arith, length-vertices js, all-named o (base .0) p q ks) in
@@ -119,7 +119,7 @@ length-shape o (emptyCap p) = length-cap (p .position) (o .«half_width») (f32 
 length-shape o (along js) = length-vertices js
 
 -- ---- one kept point
-pub nothing-drawn : (o : Stroke) (closed : Bool) (base : VertexId) {write : Bool} {l : Lists} → Puts write (from base) (shapePiece o closed base nothing) l l (from base)
+pub nothing-drawn : (o : Stroke) (closed : Bool) (base : VertexId) {write : Bool} {l : Lists} → Passes write (from base) (shapePiece o closed base nothing) l l (from base)
 unfolding shapeVertices shapeTriangles
 nothing-drawn o closed base = pieces.puts-none
 
@@ -139,7 +139,7 @@ module _ (o : Stroke) (closed : Bool) (base : VertexId) (p : Endpoint) where
   cap-laid v t e = rw (e .0, e .1) (sym (laid-start base (shapePiece o closed base (emptyCap p)) (lent v t)))
 
   pub cap-drawn : {write : Bool} {l l' : Lists} → Lays write (from base) (shapePiece o false base (emptyCap p)) l l'
-      → Puts write (from base) (shapePiece o closed base (emptyCap p)) l l' (record { base = base; vertices = 4; triangles = 2 })
+      → Passes write (from base) (shapePiece o closed base (emptyCap p)) l l' (record { base = base; vertices = 4; triangles = 2 })
   unfolding shapeVertices shapeTriangles
   cap-drawn h = record { place = rw (length-cap (p .position) (o .«half_width») (f32 0)); lists = h }
 

@@ -17,10 +17,10 @@ pub record Alone (cap : Bool) (v t : ℕ) : Type 0 where
   pub triangles : t ≡ cond cap 2 0
 
 -- what a run has of which n points are kept: of none, of one, of at least two
-abbrev pub Counts : (closed cap : Bool) (n d v t : ℕ) → Type 0
-Counts closed cap zero d v t = (v ≡ 0) × (t ≡ 0)
-Counts closed cap (suc zero) d v t = Alone cap v t
-Counts closed cap (suc (suc n)) d v t = Numbers closed (suc (suc n)) d v t
+abbrev pub RunCounts : (closed cap : Bool) (n d v t : ℕ) → Type 0
+RunCounts closed cap zero d v t = (v ≡ 0) × (t ≡ 0)
+RunCounts closed cap (suc zero) d v t = Alone cap v t
+RunCounts closed cap (suc (suc n)) d v t = Numbers closed (suc (suc n)) d v t
 
 -- Of a run whose vertices are numbered from lo to below hi: "each triangle names three different vertices of its run, every vertex is named, each
 -- triangle but a run's first shares exactly two vertices with the one before"

@@ -9,7 +9,7 @@ use Rattle.endpoint.specs.declared.Endpoint.{Endpoint}
 use Rattle.endpoint.specs.declared.EndpointData.{EndpointData}
 use Rattle.endpoint.specs.declared.VertexId.{VertexId}
 use Rattle.triangles.specs.Tri.{Tri}
-use Rattle.pieces.specs.Piece.{Vertex, Piece, Lists, from, Fits, Puts}
+use Rattle.pieces.specs.Piece.{Vertex, Piece, Lists, from, Fits, Passes}
 use Rattle.pieces.specs.declared.Place.{Place}
 use Rattle.options.specs.declared.LineCap.{LineCap}
 use Rattle.options.specs.declared.LineCap.the-variants.{Butt, Square}
@@ -68,4 +68,4 @@ abbrev pub DrawFits : Pass → Bool → VertexId → Shape → Lists → Type 0
 DrawFits pass closed base s l = Fits (pass .write) (from base) (shapePiece (pass .stroke) closed base s) l
 
 abbrev pub Draws : Pass → Bool → VertexId → Shape → Lists → Lists → Place → Type 0
-Draws pass closed base s l l' k = Puts (pass .write) (from base) (shapePiece (pass .stroke) closed base s) l l' k
+Draws pass closed base s l l' k = Passes (pass .write) (from base) (shapePiece (pass .stroke) closed base s) l l' k

@@ -13,7 +13,7 @@ use options::Stroke;
 use pieces::Index;
 use pieces::Place;
 use strip::Strip;
-use strip::write_close;
+use strip::put_close;
 use vertices::cap::tessellate_empty_square_cap;
 ghost use mathlib.Core.Bool.{true, false};
 ghost use mathlib.Core.Path.{_≡_};
@@ -44,7 +44,7 @@ fn close_round(t: &mut [Index], s: Strip, write: bool)
     if write {
         let place = s.place;
         let at = 3 * place.triangles;
-        write_close(&mut t[at..], s);
+        put_close(&mut t[at..], s);
     }
 }
 

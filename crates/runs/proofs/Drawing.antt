@@ -11,7 +11,7 @@ use lib.Ieee.{Float}
 use lib.ListN.{length, drop, getD}
 use Rattle.endpoint.specs.declared.Endpoint.{Endpoint}
 use Rattle.endpoint.specs.declared.VertexId.{VertexId}
-use Rattle.pieces.specs.Piece.{Piece, joined, behind, from, nextVertex, anew, Lists, lent, Fits, Puts}
+use Rattle.pieces.specs.Piece.{Piece, joined, behind, from, nextVertex, anew, Lists, lent, Fits, Passes}
 use Rattle.pieces.specs.Limits.{numberLimit}
 use Rattle.pieces.specs.declared.Place.{Place}
 use Rattle.pieces.proofs.Pieces.{puts-none, puts-both, fits-front, fits-back, reached, parts-fit, parts-put}
@@ -28,21 +28,21 @@ use Rattle.runs.proofs.Runs.{meshes-append}
 
 -- ---- runs one behind the other
 module _ (o : Stroke) {write : Bool} {k : Place} {l : Lists} where
-  runs-none : Puts write k (meshPiece o k []) l l k
+  runs-none : Passes write k (meshPiece o k []) l l k
   unfolding meshVertices meshTriangles
   runs-none = puts-none
 
   runs-front : (xs ys : List (Run Endpoint)) → Fits write k (meshPiece o k (xs ++ ys)) l → Fits write k (meshPiece o k xs) l
   runs-front xs ys h = fits-front (meshPiece o k xs) (meshPiece o (behind k (meshPiece o k xs)) ys) (rw (meshes-append o k xs ys) at h)
 
-  module _ (xs ys : List (Run Endpoint)) {l1 : Lists} {k1 : Place} (e : Puts write k (meshPiece o k xs) l l1 k1) where
+  module _ (xs ys : List (Run Endpoint)) {l1 : Lists} {k1 : Place} (e : Passes write k (meshPiece o k xs) l l1 k1) where
     split : meshPiece o k (xs ++ ys) ≡ joined (meshPiece o k xs) (meshPiece o k1 ys)
     split = rw (e .place) (meshes-append o k xs ys)
 
     runs-back : Fits write k (meshPiece o k (xs ++ ys)) l → Fits write k1 (meshPiece o k1 ys) l1
     runs-back h = fits-back (meshPiece o k xs) (meshPiece o k1 ys) (rw split at h) e
 
-    runs-both : {l2 : Lists} {k2 : Place} → Puts write k1 (meshPiece o k1 ys) l1 l2 k2 → Puts write k (meshPiece o k (xs ++ ys)) l l2 k2
+    runs-both : {l2 : Lists} {k2 : Place} → Passes write k1 (meshPiece o k1 ys) l1 l2 k2 → Passes write k (meshPiece o k (xs ++ ys)) l l2 k2
     runs-both f = rw split (puts-both e f)
 
 -- ---- a verb: one that names no point ends the current run
@@ -67,21 +67,21 @@ module _ (o : Stroke) (g : Cursor) (verb : ℕ) (ps : List Endpoint) where
     part-fits = rw (ea, eb, ev, eq) (parts-fit (g .place) run v t write run-fits)
 
     module _ {v' : List Float} {t' : List ℕ} {r : Place}
-        (e : Puts write (from vertex) (shapePiece o (eqb verb endClosed) vertex (shapeOf o (eqb verb endClosed) qs)) (lent (midOf a (length v - a) v) (midOf b (length t - b) t)) (lent v' t') r) where
-      drawn : Puts write (anew (g .place)) run (lent (midOf a (length v - a) v) (midOf b (length t - b) t)) (lent v' t') r
+        (e : Passes write (from vertex) (shapePiece o (eqb verb endClosed) vertex (shapeOf o (eqb verb endClosed) qs)) (lent (midOf a (length v - a) v) (midOf b (length t - b) t)) (lent v' t') r) where
+      drawn : Passes write (anew (g .place)) run (lent (midOf a (length v - a) v) (midOf b (length t - b) t)) (lent v' t') r
       drawn = rw (ev, eq) at e
 
       pub part-few : (nextVertex (g .place) + r .vertices < numberLimit) × (g .place .triangles + r .triangles < numberLimit)
       part-few = rw (drawn .place) (omega (arith, run-fits .numbers), omega (arith, run-fits .faces))
 
-      pub part-puts : Puts write (g .place) (meshPiece o (g .place) (endedOf g verb ps)) (lent v t) (lent (putMid a (length v - a) v v') (putMid b (length t - b) t t')) (reached (g .place) run v t r)
+      pub part-puts : Passes write (g .place) (meshPiece o (g .place) (endedOf g verb ps)) (lent v t) (lent (putMid a (length v - a) v v') (putMid b (length t - b) t t')) (reached (g .place) run v t r)
       part-puts = rw (one-is n, ea, eb) (parts-put (g .place) run v t write run-fits v' t' r (rw (ea, eb) at drawn))
 
 -- ---- the pass
 pub record Going (write : Bool) (o : Stroke) (vs : List ℕ) (ps : List Endpoint) (l0 : Lists) (i : ℕ) (g : Cursor) (l : Lists) : Type 0 where
   pub done : List (Run Endpoint)
   pub passing : Passing vs ps i g done
-  pub puts : Puts write undrawn (meshPiece o undrawn done) l0 l (g .place)
+  pub puts : Passes write undrawn (meshPiece o undrawn done) l0 l (g .place)
 
 pub going-none : (write : Bool) (o : Stroke) (vs : List ℕ) (ps : List Endpoint) (l : Lists) → Going write o vs ps l 0 startOf l
 going-none write o vs ps l = record { done = []; passing = pass-none vs ps; puts = runs-none o }
@@ -101,7 +101,7 @@ module _ {write : Bool} {o : Stroke} {vs : List ℕ} {ps : List Endpoint} {l0 : 
     unfolding xs rest
     going-fits f = runs-front o xs rest (runs-back o (m .done) (xs ++ rest) (m .puts) (rw (pass-split vs ps i g (m .done) (m .passing) undrawn h) at f))
 
-    pub going-turn : {k : Place} {l1 : Lists} → Puts write (g .place) (meshPiece o (g .place) (endedOf g (getD vs i 0) ps)) l l1 k → Going write o vs ps l0 (i + 1) (movedOf g (getD vs i 0) k) l1
+    pub going-turn : {k : Place} {l1 : Lists} → Passes write (g .place) (meshPiece o (g .place) (endedOf g (getD vs i 0) ps)) l l1 k → Going write o vs ps l0 (i + 1) (movedOf g (getD vs i 0) k) l1
     unfolding xs
     going-turn {k} e = record {
       done = m .done ++ xs;
@@ -109,5 +109,5 @@ module _ {write : Bool} {o : Stroke} {vs : List ℕ} {ps : List Endpoint} {l0 : 
       puts = rw (moved-place g (getD vs i 0) k ps) (runs-both o (m .done) xs (m .puts) e);
     }
 
-  pub going-all : length vs ≤ i → Puts write undrawn (meshPiece o undrawn (runsFrom 0 vs ps)) l0 l (g .place)
+  pub going-all : length vs ≤ i → Passes write undrawn (meshPiece o undrawn (runsFrom 0 vs ps)) l0 l (g .place)
   going-all h = rw (pass-all vs ps i g (m .done) (m .passing) h) at (m .puts)

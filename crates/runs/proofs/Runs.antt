@@ -14,7 +14,7 @@ use Rattle.path.specs.Runs.{Run, pointsOf}
 use Rattle.run.specs.Run.{shapeCount}
 use Rattle.run.proofs.Facts.{run-within, run-anywhere}
 use Rattle.run.proofs.Whole.{length-shape}
-use Rattle.runs.specs.Runs.{Count, drawnOf, meshVertices, meshCount, meshTriangles, meshPiece, meshCounts}
+use Rattle.runs.specs.Runs.{Tally, drawnOf, meshVertices, meshCount, meshTriangles, meshPiece, meshCounts}
 
 module _ (o : Stroke) where
   pub vertices-append : (xs ys : List (Run Endpoint)) → meshVertices o (xs ++ ys) ≡ meshVertices o xs ++ meshVertices o ys
@@ -49,7 +49,7 @@ module _ (o : Stroke) where
       simp length-append (omega (arith, run-anywhere o (r .closed) base (r .points), triangles-anywhere (base + shapeCount s) rs, triangles-anywhere (0 + shapeCount s) rs))
 
 -- ---- bounds, in one place: so many vertices to a point, no more triangles than vertices
-pub record Bounded (n : ℕ) (c : Count) : Type 0 where
+pub record Bounded (n : ℕ) (c : Tally) : Type 0 where
   pub vertices : c .vertices ≤ mostToPoint * n
   pub triangles : c .triangles ≤ c .vertices
 

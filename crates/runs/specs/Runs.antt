@@ -47,11 +47,11 @@ meshEdges o [] = []
 meshEdges o (r ∷ rs) = legsOf (r .closed) (o .«half_width») (keptPoints (o .near) (r .closed) (r .points)) ++ meshEdges o rs
 
 -- how many of each there are, and the first short edge
-pub record Count : Type 0 where
+pub record Tally : Type 0 where
   pub vertices : ℕ
   pub triangles : ℕ
   pub legs : ℕ
   pub short : ℕ
 
-abbrev pub meshCounts : Stroke → List (Run Endpoint) → Count
+abbrev pub meshCounts : Stroke → List (Run Endpoint) → Tally
 meshCounts o rs = record { vertices = meshCount o rs; triangles = length (meshTriangles o 0 rs); legs = length (meshEdges o rs); short = firstShort (meshEdges o rs) }

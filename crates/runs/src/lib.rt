@@ -14,7 +14,7 @@ use pieces::next_vertex;
 use run::draw_run;
 ghost use mathlib.Core.Bool.{cond};
 ghost use mathlib.Core.Path.{_≡_};
-ghost use Rattle.pieces.specs.Piece.{lent, Fits, Puts};
+ghost use Rattle.pieces.specs.Piece.{lent, Fits, Passes};
 ghost use Rattle.kept.specs.Points.{endpointsOf};
 ghost use Rattle.runs.specs.Runs.{runsOf, meshPiece};
 ghost use Rattle.runs.specs.Cursor.{undrawn, endedOf};
@@ -41,7 +41,7 @@ fn draw_verb(
 ) -> Place
     requires { ⌜ Inside g (now coords) ⌝ }
     requires { ⌜ Fits (pass .write) (g .place) (meshPiece (pass .stroke) (g .place) (endedOf g verb (endpointsOf 0 (now coords)))) (lent (now v) (now t)) ⌝ }
-    ensures { λ r. ⌜ Puts (pass .write) (g .place) (meshPiece (pass .stroke) (g .place) (endedOf g verb (endpointsOf 0 (now (coords .entry))))) (lent (now (v .entry)) (now (t .entry))) (lent (now (v .exit)) (now (t .exit))) r ⌝ }
+    ensures { λ r. ⌜ Passes (pass .write) (g .place) (meshPiece (pass .stroke) (g .place) (endedOf g verb (endpointsOf 0 (now (coords .entry))))) (lent (now (v .entry)) (now (t .entry))) (lent (now (v .exit)) (now (t .exit))) r ⌝ }
 {
     let place = g.place;
     if names_point(verb) {
@@ -76,7 +76,7 @@ fn draw_verb(
 pub fn draw_runs(v: &mut [f32], t: &mut [Index], pass: Pass, verbs: &[u8], coords: &[f32]) -> Place
     requires { ⌜ Paired (now verbs) (now coords) ⌝ }
     requires { ⌜ Fits (pass .write) undrawn (meshPiece (pass .stroke) undrawn (runsOf (now verbs) (now coords))) (lent (now v) (now t)) ⌝ }
-    ensures { λ r. ⌜ Puts (pass .write) undrawn (meshPiece (pass .stroke) undrawn (runsOf (now (verbs .entry)) (now (coords .entry)))) (lent (now (v .entry)) (now (t .entry))) (lent (now (v .exit)) (now (t .exit))) r ⌝ }
+    ensures { λ r. ⌜ Passes (pass .write) undrawn (meshPiece (pass .stroke) undrawn (runsOf (now (verbs .entry)) (now (coords .entry)))) (lent (now (v .entry)) (now (t .entry))) (lent (now (v .exit)) (now (t .exit))) r ⌝ }
 {
     let mut g = start();
     let mut i: usize = 0;

@@ -15,7 +15,7 @@ use Rattle.strip.specs.declared.section.Section.{Section}
 use Rattle.strip.specs.Joint.{jointCount}
 use Rattle.strip.specs.Section.{sectionOf, beforeOf, afterOf}
 use Rattle.strip.specs.Triangle.{between, past}
-use Rattle.strip.specs.Strip.{nextOf, stepTriangles, stepOf, steppedOf, stepsOf, Behind, Sound, pieceOf, Steps, Has, Puts}
+use Rattle.strip.specs.Strip.{nextOf, stepTriangles, stepOf, steppedOf, stepsOf, Behind, Sound, pieceOf, StepFits, StripFits, StripPasses}
 use Rattle.strip.proofs.Joints.{joint-few, after-counted, length-joint, length-more}
 use Rattle.strip.proofs.Triangles.{between-same}
 use Rattle.strip.proofs.Facts.Ladder.{between-both, length-ladder, inner-triangles, length-inner, beforeN}
@@ -56,11 +56,11 @@ unfolding stepOf steppedOf
 stepped-is s j o = rw (length-joint j, faces (s .begun) (s .place .triangles) (length (stepTriangles s j)) (jointCount j) (step-length s j o), after-counted (nextOf s) j)
 
 -- a pass over one joint, whose sides have p and n vertices
-module _ {write : Bool} {s : Strip} {j : EndpointData} {l : Lists} (h : Has write s (j ∷ []) l)
+module _ {write : Bool} {s : Strip} {j : EndpointData} {l : Lists} (h : StripFits write s (j ∷ []) l)
     (p n : ℕ) (ep : p ≡ sideCountOf (j .positive)) (en : n ≡ sideCountOf (j .negative)) where
-  pub steps-one : Steps s p n
+  pub steps-one : StepFits s p n
   steps-one = omega (arith, joint-few j, h .fits .numbers, length-more j [], h .fits .faces)
 
-  pub puts-one : {s' : Strip} {l' : Lists} → s' ≡ steppedOf s p n → Lays write (s .place) (pieceOf s (j ∷ [])) l l' → Puts write (j ∷ []) s l l' s'
+  pub puts-one : {s' : Strip} {l' : Lists} → s' ≡ steppedOf s p n → Lays write (s .place) (pieceOf s (j ∷ [])) l l' → StripPasses write (j ∷ []) s l l' s'
   unfolding stepsOf
   puts-one e g = record { state = e ∙ rw (ep, en) (sym (stepped-is s j (h .sound))); lays = g }

@@ -21,7 +21,7 @@ use Rattle.strip.specs.declared.section.Section.{Section}
 use Rattle.strip.specs.Joint.{jointCount, jointVerticesOf}
 use Rattle.strip.specs.Section.{beforeOf, afterOf, Narrow}
 use Rattle.strip.specs.Triangle.{past}
-use Rattle.strip.specs.Strip.{nextOf, stepTriangles, stepPiece, pieceOf, Has}
+use Rattle.strip.specs.Strip.{nextOf, stepTriangles, stepPiece, pieceOf, StripFits}
 use Rattle.strip.proofs.Joints.{length-joint}
 use Rattle.strip.proofs.Steps.{piece-one, narrow-choice, narrow-before, narrow-after}
 
@@ -45,7 +45,7 @@ pub record Sections (s : Strip) (j : EndpointData) (l b a : Section) : Type 0 wh
   pub after : a ≡ afterOf (nextOf s) j
   pub last : l ≡ cond (s .begun) (s .last) b
 
-module _ {s : Strip} {j : EndpointData} {v : List Float} {t : List ℕ} (h : Has true s (j ∷ []) (lent v t)) where
+module _ {s : Strip} {j : EndpointData} {v : List Float} {t : List ℕ} (h : StripFits true s (j ∷ []) (lent v t)) where
   fits : Fits true (s .place) (stepPiece s j) (lent v t)
   fits = rw (piece-one s j) at (h .fits)
 

@@ -84,18 +84,18 @@ pub record Sound (s : Strip) : Type 0 where
   pub behind : s .begun ≡ true → Behind s
 
 -- what a step by p and n vertices needs: a u16 holds the numbers
-pub record Steps (s : Strip) (p n : ℕ) : Type 0 where
+pub record StepFits (s : Strip) (p n : ℕ) : Type 0 where
   pub positive : (1 ≤ p) × (p ≤ 2)
   pub negative : (1 ≤ n) × (n ≤ 2)
   pub numbers : nextOf s + (p + n) < numberLimit
   pub faces : s .place .triangles < numberLimit
 
 -- what a pass over the joints js needs
-pub record Has (write : Bool) (s : Strip) (js : List EndpointData) (l : Lists) : Type 0 where
+pub record StripFits (write : Bool) (s : Strip) (js : List EndpointData) (l : Lists) : Type 0 where
   pub sound : Sound s
   pub fits : Fits write (s .place) (pieceOf s js) l
 
 -- what it does, from the state s to s': it counts them and, where it writes, writes them
-pub record Puts (write : Bool) (js : List EndpointData) (s : Strip) (l l' : Lists) (s' : Strip) : Type 0 where
+pub record StripPasses (write : Bool) (js : List EndpointData) (s : Strip) (l l' : Lists) (s' : Strip) : Type 0 where
   pub state : s' ≡ stepsOf s js
   pub lays : Lays write (s .place) (pieceOf s js) l l'

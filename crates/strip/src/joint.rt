@@ -27,7 +27,7 @@ pub fn negative_count(j: EndpointData) -> usize
 }
 
 // Both sides' vertices.
-pub fn write_vertices(v: &mut [f32], j: EndpointData)
+pub fn put_vertices(v: &mut [f32], j: EndpointData)
     requires { ⌜ 5 * jointCount j ≤ length (now v) ⌝ }
     ensures { λ _. ⌜ now (v .exit) ≡ over (flatV (jointVerticesOf j)) (now (v .entry)) ⌝ }
 {

@@ -1,12 +1,12 @@
 // A run's strip: its joints, one by one, become vertices, sections and triangles (rules 8 and 9 of
 // document 01).
-use crate::joint::write_vertices;
+use crate::joint::put_vertices;
 use crate::section::Section;
 use crate::section::after;
 use crate::section::before;
 use crate::section::choose;
-use crate::triangle::write_between;
-use crate::triangle::write_past;
+use crate::triangle::put_between;
+use crate::triangle::put_past;
 use endpoint::EndpointData;
 use endpoint::VertexId;
 use endpoint::vertex_after;
@@ -21,7 +21,7 @@ ghost use lib.ListN.{length};
 ghost use Rattle.lists.specs.Over.{over};
 ghost use Rattle.pieces.specs.Piece.{flatT, lent, laid, Lays};
 ghost use Rattle.strip.specs.Triangle.{between};
-ghost use Rattle.strip.specs.Strip.{Sound, Has, Steps, startOf, steppedOf, pieceOf};
+ghost use Rattle.strip.specs.Strip.{Sound, StripFits, StepFits, startOf, steppedOf, pieceOf};
 ghost use Rattle.pieces.specs.Limits.{numberLimit};
 
 pub mod joint;
@@ -58,8 +58,8 @@ pub fn start(base: VertexId) -> Strip
 }
 
 // One joint more: from the last section to the one before it, and on to the one after it.
-pub fn put_joint(v: &mut [f32], t: &mut [Index], s: Strip, j: EndpointData)
-    requires { ⌜ Has true s (j ∷ []) (lent (now v) (now t)) ⌝ }
+pub fn lay_joint(v: &mut [f32], t: &mut [Index], s: Strip, j: EndpointData)
+    requires { ⌜ StripFits true s (j ∷ []) (lent (now v) (now t)) ⌝ }
     ensures { λ _. ⌜ lent (now (v .exit)) (now (t .exit)) ≡ laid (s .place) (pieceOf s (j ∷ [])) (lent (now (v .entry)) (now (t .entry))) ⌝ }
 {
     let place = s.place;
@@ -68,18 +68,18 @@ pub fn put_joint(v: &mut [f32], t: &mut [Index], s: Strip, j: EndpointData)
     let a = after(next, j);
     let last = choose(s.begun, s.last, b);
     let at = 5 * place.vertices;
-    write_vertices(&mut v[at..], j);
+    put_vertices(&mut v[at..], j);
     let to = 3 * place.triangles;
-    write_past(&mut t[to..], last, b, a);
+    put_past(&mut t[to..], last, b, a);
 }
 
 // The same where a pass writes.
-pub fn lay_joint(v: &mut [f32], t: &mut [Index], s: Strip, j: EndpointData, write: bool)
-    requires { ⌜ Has write s (j ∷ []) (lent (now v) (now t)) ⌝ }
+pub fn lay_joint_if(v: &mut [f32], t: &mut [Index], s: Strip, j: EndpointData, write: bool)
+    requires { ⌜ StripFits write s (j ∷ []) (lent (now v) (now t)) ⌝ }
     ensures { λ _. ⌜ Lays write (s .place) (pieceOf s (j ∷ [])) (lent (now (v .entry)) (now (t .entry))) (lent (now (v .exit)) (now (t .exit))) ⌝ }
 {
     if write {
-        put_joint(v, t, s, j);
+        lay_joint(v, t, s, j);
     }
 }
 
@@ -96,7 +96,7 @@ fn more_triangles(begun: bool, triangles: usize, vertices: usize) -> usize
 
 // The state with one joint more, whose sides have so many vertices.
 pub fn step(s: Strip, positive: usize, negative: usize) -> Strip
-    requires { ⌜ Steps s positive negative ⌝ }
+    requires { ⌜ StepFits s positive negative ⌝ }
     ensures { λ r. ⌜ r ≡ steppedOf s positive negative ⌝ }
 {
     let place = s.place;
@@ -123,11 +123,11 @@ pub fn step(s: Strip, positive: usize, negative: usize) -> Strip
 }
 
 // A closed run goes round to its first section. The result is the number of triangles.
-pub fn write_close(t: &mut [Index], s: Strip) -> usize
+pub fn put_close(t: &mut [Index], s: Strip) -> usize
     requires { ⌜ 3 * length (between (s .last) (s .first)) ≤ length (now t) ⌝ }
     requires { ⌜ Sound s ⌝ }
     ensures { λ r. ⌜ r ≡ length (between (s .last) (s .first)) ⌝ }
     ensures { λ _. ⌜ now (t .exit) ≡ over (flatT (between (s .last) (s .first))) (now (t .entry)) ⌝ }
 {
-    write_between(t, s.last, s.first)
+    put_between(t, s.last, s.first)
 }

@@ -26,7 +26,7 @@ fn different(a: VertexId, b: VertexId, c: VertexId) -> bool
 }
 
 // A triangle, left out if two of its numbers are equal. The result is the number of triangles.
-fn write_triangle(t: &mut [Index], a: VertexId, b: VertexId, c: VertexId) -> usize
+fn put_different(t: &mut [Index], a: VertexId, b: VertexId, c: VertexId) -> usize
     requires { ⌜ 3 * length (triOf (a .0) (b .0) (c .0)) ≤ length (now t) ⌝ }
     requires { ⌜ (a .0 < numberLimit) × (b .0 < numberLimit) × (c .0 < numberLimit) ⌝ }
     ensures { λ r. ⌜ r ≡ length (triOf (a .0) (b .0) (c .0)) ⌝ }
@@ -40,27 +40,27 @@ fn write_triangle(t: &mut [Index], a: VertexId, b: VertexId, c: VertexId) -> usi
 }
 
 // (N, P, P') and (N, P', N'). The result is the number of triangles.
-pub fn write_between(t: &mut [Index], s: Section, e: Section) -> usize
+pub fn put_between(t: &mut [Index], s: Section, e: Section) -> usize
     requires { ⌜ 3 * length (between s e) ≤ length (now t) ⌝ }
     requires { ⌜ Narrow s × Narrow e ⌝ }
     ensures { λ r. ⌜ r ≡ length (between s e) ⌝ }
     ensures { λ _. ⌜ now (t .exit) ≡ over (flatT (between s e)) (now (t .entry)) ⌝ }
 {
-    let n = write_triangle(t, s.negative, s.positive, e.positive);
+    let n = put_different(t, s.negative, s.positive, e.positive);
     let at = 3 * n;
-    let m = write_triangle(&mut t[at..], s.negative, e.positive, e.negative);
+    let m = put_different(&mut t[at..], s.negative, e.positive, e.negative);
     n + m
 }
 
 // To the section before a joint, and on to the one after it. The result is the number of triangles.
-pub fn write_past(t: &mut [Index], last: Section, b: Section, a: Section) -> usize
+pub fn put_past(t: &mut [Index], last: Section, b: Section, a: Section) -> usize
     requires { ⌜ 3 * length (past last b a) ≤ length (now t) ⌝ }
     requires { ⌜ Narrow last × Narrow b × Narrow a ⌝ }
     ensures { λ r. ⌜ r ≡ length (past last b a) ⌝ }
     ensures { λ _. ⌜ now (t .exit) ≡ over (flatT (past last b a)) (now (t .entry)) ⌝ }
 {
-    let n = write_between(t, last, b);
+    let n = put_between(t, last, b);
     let at = 3 * n;
-    let m = write_between(&mut t[at..], b, a);
+    let m = put_between(&mut t[at..], b, a);
     n + m
 }

@@ -2,7 +2,7 @@
 -- negative; in a pair, first point then second." Assumes nothing.
 use mathlib.Core.List.{List, [], _∷_}
 use lib.Ieee.{Float}
-use Rattle.plane.specs.Vector.{point, plusOf, minusOf, timesOf, overOf}
+use Rattle.plane.specs.Vector.{point, plusOf, minusOf, timesOf, dividedOf}
 use Rattle.endpoint.specs.declared.EndpointData.{EndpointData}
 use Rattle.endpoint.specs.declared.Side.{Side}
 use Rattle.endpoint.specs.declared.Side.the-variants.{Positive, Negative}
@@ -14,7 +14,7 @@ use Rattle.vertices.specs.Vertex.{vertexOf}
 -- the vertex of the point (x, y) beside the endpoint e
 unfoldable pub baseVertexOf : EndpointData → Float → Float → Vertex
 baseVertexOf e x y =
-    let normal = overOf (minusOf (point x y) (e .position)) (e .«half_width») in
+    let normal = dividedOf (minusOf (point x y) (e .position)) (e .«half_width») in
     vertexOf (plusOf (e .position) (timesOf normal (e .«half_width»))) normal (e .advancement)
 
 unfoldable pub sideVerticesOf : EndpointData → SidePoints → List Vertex

@@ -8,8 +8,8 @@ use Rattle.along.proofs.pass_joint.Tie as tie
 joint-of-requires : tie.Need-joint-of-requires
 joint-of-requires c κs = search needs
 
-put-joint-requires : tie.Need-put-joint-requires
-put-joint-requires c κs = rw (c .before .before .joint-of .ensures) (rw (c .before .before .before .if1 .taken) at (c .before .before .before .before .before .before .pre))
+lay-joint-requires : tie.Need-lay-joint-requires
+lay-joint-requires c κs = rw (c .before .before .joint-of .ensures) (rw (c .before .before .before .if1 .taken) at (c .before .before .before .before .before .before .pre))
 
 counts-of-requires : tie.Need-counts-of-requires
 counts-of-requires c κs = search needs
@@ -23,7 +23,7 @@ same-length-2 c = search needs
 returns : tie.Need-returns
 returns c =
     let j = c .before .before .before .before .before .before .before .before .joint-of .ensures in
-    (rw (c .counts-of .ensures, j), λ w. rw j at (c .before .before .before .before .before .put-joint .ensures))
+    (rw (c .counts-of .ensures, j), λ w. rw j at (c .before .before .before .before .before .lay-joint .ensures))
 
 joint-counts-requires : tie.Need-joint-counts-requires
 joint-counts-requires c κs = search needs
@@ -36,7 +36,7 @@ pass-joint-spec =
     tie.close
     (tie.spec
     joint-of-requires
-    put-joint-requires
+    lay-joint-requires
     counts-of-requires
     same-length
     same-length-2

@@ -14,26 +14,26 @@ asked c = c .before .before .before .before .pre (c .before .before .if1 .taken)
 mul-at : tie.Need-mul-at
 mul-at c = omega (arith, asked c .few)
 
-mul-write-close : tie.Need-mul-write-close
-mul-write-close c = omega (arith, asked c .few)
+mul-put-close : tie.Need-mul-put-close
+mul-put-close c = omega (arith, asked c .few)
 
-sub-write-close : tie.Need-sub-write-close
-sub-write-close c = omega (arith, asked c .room)
+sub-put-close : tie.Need-sub-put-close
+sub-put-close c = omega (arith, asked c .room)
 
-part-write-close-start : tie.Need-part-write-close-start
-part-write-close-start c = omega (arith, asked c .room)
+part-put-close-start : tie.Need-part-put-close-start
+part-put-close-start c = omega (arith, asked c .room)
 
-part-write-close-end : tie.Need-part-write-close-end
-part-write-close-end c = search needs
+part-put-close-end : tie.Need-part-put-close-end
+part-put-close-end c = search needs
 
-write-close-requires : tie.Need-write-close-requires
-write-close-requires c κs = (close-room _ _ (asked (c .before)), asked (c .before) .sound)
+put-close-requires : tie.Need-put-close-requires
+put-close-requires c κs = (close-room _ _ (asked (c .before)), asked (c .before) .sound)
 
 same-length : tie.Need-same-length
 same-length c = search needs
 
 returns : tie.Need-returns
-returns c = λ w. rounded _ _ (asked (c .before .before .before .before)) _ (c .before .before .write-close .ensures .1)
+returns c = λ w. rounded _ _ (asked (c .before .before .before .before)) _ (c .before .before .put-close .ensures .1)
 
 returns-2 : tie.Need-returns-2
 returns-2 c = λ w. absurd (true≢false (sym w ∙ c .if1 .left))
@@ -43,11 +43,11 @@ close-round-spec =
     tie.close
     (tie.spec
     mul-at
-    mul-write-close
-    sub-write-close
-    part-write-close-start
-    part-write-close-end
-    write-close-requires
+    mul-put-close
+    sub-put-close
+    part-put-close-start
+    part-put-close-end
+    put-close-requires
     same-length
     returns
     returns-2)

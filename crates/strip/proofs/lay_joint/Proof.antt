@@ -1,12 +1,72 @@
--- `strip::lay_joint` meets its contract. Assumes nothing.
+-- `strip::lay_joint` meets its contract. The plan: the calls before the writers give the joint's sections (`told`); what has room, and what both writers leave
+-- together, Writing says of those. Assumes nothing.
 use borrow.Author.Needs.{needs}
-use mathlib.Core.Bool.{true≢false}
-use mathlib.Core.Path.{sym, _∙_}
+use native.Mathlib.Omega.{arith}
+use lib.ListN.{length-take, length-drop}
+use Rattle.strip.proofs.Writing.{Sections, numbers-fit, vertices-fit, triangles-fit, narrow, joint-laid}
 use Rattle.strip.proofs.lay_joint.Statement.{statement}
 use Rattle.strip.proofs.lay_joint.Tie as tie
 
-put-joint-requires : tie.Need-put-joint-requires
-put-joint-requires c κs = rw (c .before .before .if1 .taken) at (c .before .before .before .before .before .pre)
+abbrev entry : tie.After-choose → tie.Start
+entry c = c .before .before .before .before .before .before .before
+
+abbrev chosen : tie.After-struct-known2 → tie.After-choose
+chosen c = c .before .before .before .before .before .before
+
+told : (c : tie.After-choose) → Sections (entry c .args .s) (entry c .args .j) (c .choose .result) (c .before .before .before2 .result) (c .before .after .result)
+told c =
+    let next = c .before .before .before .next-vertex .ensures in
+    record { before = rw next at (c .before .before .before2 .ensures); after = rw next at (c .before .after .ensures); last = c .choose .ensures }
+
+next-vertex-requires : tie.Need-next-vertex-requires
+next-vertex-requires c κs = omega (arith, numbers-fit (c .before .before .before .pre))
+
+before-requires : tie.Need-before-requires
+before-requires c κs = rw (c .next-vertex .ensures) (numbers-fit (c .before .before .before .before .pre))
+
+after-requires : tie.Need-after-requires
+after-requires c κs = rw (c .before .next-vertex .ensures) (numbers-fit (c .before .before .before .before .before .pre))
+
+choose-requires : tie.Need-choose-requires
+choose-requires c κs = search needs
+
+mul-at : tie.Need-mul-at
+mul-at c = omega (arith, numbers-fit (entry (c .before) .pre))
+
+mul-put-vertices : tie.Need-mul-put-vertices
+mul-put-vertices c = omega (arith, numbers-fit (entry (c .before) .pre))
+
+sub-put-vertices : tie.Need-sub-put-vertices
+sub-put-vertices c = omega (arith, vertices-fit (entry (c .before) .pre))
+
+part-put-vertices-start : tie.Need-part-put-vertices-start
+part-put-vertices-start c = omega (arith, vertices-fit (entry (c .before) .pre))
+
+part-put-vertices-end : tie.Need-part-put-vertices-end
+part-put-vertices-end c = search needs
+
+put-vertices-requires : tie.Need-put-vertices-requires
+put-vertices-requires c κs = simp (length-take, length-drop) (omega (arith, vertices-fit (entry (c .before .before) .pre)))
+
+mul-to : tie.Need-mul-to
+mul-to c = omega (arith, entry (chosen c) .pre .fits .faces)
+
+mul-put-past : tie.Need-mul-put-past
+mul-put-past c = omega (arith, entry (chosen c) .pre .fits .faces)
+
+sub-put-past : tie.Need-sub-put-past
+sub-put-past c = omega (arith, triangles-fit (entry (chosen c) .pre) (told (chosen c)))
+
+part-put-past-start : tie.Need-part-put-past-start
+part-put-past-start c = omega (arith, triangles-fit (entry (chosen c) .pre) (told (chosen c)))
+
+part-put-past-end : tie.Need-part-put-past-end
+part-put-past-end c = search needs
+
+put-past-requires : tie.Need-put-past-requires
+put-past-requires c κs =
+    let a = chosen (c .before) in
+    (simp (length-take, length-drop) (omega (arith, triangles-fit (entry a .pre) (told a))), narrow (entry a .pre) (told a))
 
 same-length : tie.Need-same-length
 same-length c = search needs
@@ -15,11 +75,30 @@ same-length-2 : tie.Need-same-length-2
 same-length-2 c = search needs
 
 returns : tie.Need-returns
-returns c = λ w. c .before .before .before .before .put-joint .ensures
-
-returns-2 : tie.Need-returns-2
-returns-2 c = λ w. absurd (true≢false (sym w ∙ c .if1 .left))
+returns c =
+    let a = chosen (c .before .before .before .before) in
+    joint-laid (entry a .pre) (told a) _ _ (c .before .before .before .before .before .before .before .put-vertices .ensures) (c .before .before .put-past .ensures .1)
 
 pub lay-joint-spec : {M : Type 1} → statement M
 lay-joint-spec =
-    tie.close (tie.spec put-joint-requires same-length same-length-2 returns returns-2)
+    tie.close
+    (tie.spec
+    next-vertex-requires
+    before-requires
+    after-requires
+    choose-requires
+    mul-at
+    mul-put-vertices
+    sub-put-vertices
+    part-put-vertices-start
+    part-put-vertices-end
+    put-vertices-requires
+    mul-to
+    mul-put-past
+    sub-put-past
+    part-put-past-start
+    part-put-past-end
+    put-past-requires
+    same-length
+    same-length-2
+    returns)

@@ -8,8 +8,8 @@ use Rattle.along.proofs.strips.pass_cap.Tie as tie
 abbrev entry : tie.After-positive-count → tie.Start
 entry c = c .before .before .before .before .before .before .before .before .before .before
 
-lay-joint-requires : tie.Need-lay-joint-requires
-lay-joint-requires c κs = c .before .before .before .before .pre
+lay-joint-if-requires : tie.Need-lay-joint-if-requires
+lay-joint-if-requires c κs = c .before .before .before .before .pre
 
 positive-count-requires : tie.Need-positive-count-requires
 positive-count-requires c κs = search needs
@@ -29,13 +29,13 @@ same-length-2 c = search needs
 returns : tie.Need-returns
 returns c =
     let p = c .before .before in
-    puts-one (entry p .pre) _ _ (p .positive-count .ensures) (c .before .negative-count .ensures) (c .step .ensures) (p .before .before .before .before .before .lay-joint .ensures)
+    puts-one (entry p .pre) _ _ (p .positive-count .ensures) (c .before .negative-count .ensures) (c .step .ensures) (p .before .before .before .before .before .lay-joint-if .ensures)
 
 pub pass-cap-spec : {M : Type 1} → statement M
 pass-cap-spec =
     tie.close
     (tie.spec
-    lay-joint-requires
+    lay-joint-if-requires
     positive-count-requires
     negative-count-requires
     step-requires

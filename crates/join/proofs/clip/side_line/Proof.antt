@@ -10,12 +10,12 @@ turned-requires c κs = search needs
 length-requires : tie.Need-length-requires
 length-requires c κs = search needs
 
-over-requires : tie.Need-over-requires
-over-requires c κs = search needs
+divided-requires : tie.Need-divided-requires
+divided-requires c κs = search needs
 
 returns : tie.Need-returns
 unfolding sideLineOf
-returns c = rw (c .over .ensures, c .before .length .ensures, c .before .before .turned .ensures)
+returns c = rw (c .divided .ensures, c .before .length .ensures, c .before .before .turned .ensures)
 
 pub side-line-spec : {M : Type 1} → statement M
-side-line-spec = tie.close (tie.spec turned-requires length-requires over-requires returns)
+side-line-spec = tie.close (tie.spec turned-requires length-requires divided-requires returns)

@@ -10,8 +10,8 @@ minus-requires c κs = search needs
 length-requires : tie.Need-length-requires
 length-requires c κs = search needs
 
-over-requires : tie.Need-over-requires
-over-requires c κs = search needs
+divided-requires : tie.Need-divided-requires
+divided-requires c κs = search needs
 
 turned-requires : tie.Need-turned-requires
 turned-requires c κs = search needs
@@ -44,7 +44,7 @@ returns c =
     let t = offset .before .before in
     rw (c .edge-side2 .ensures, c .before .minus3 .ensures, c .before .before .minus2 .ensures, c .before .before .before .edge-side .ensures) (
     rw (c .before .before .before .before .plus2 .ensures, c .before .before .before .before .before .plus .ensures) (
-    rw (offset .times .ensures, offset .before .turned .ensures, t .over .ensures, t .before .length .ensures, t .before .before .minus .ensures)))
+    rw (offset .times .ensures, offset .before .turned .ensures, t .divided .ensures, t .before .length .ensures, t .before .before .minus .ensures)))
 
 pub edge-of-spec : {M : Type 1} → statement M
 edge-of-spec =
@@ -52,7 +52,7 @@ edge-of-spec =
     (tie.spec
     minus-requires
     length-requires
-    over-requires
+    divided-requires
     turned-requires
     times-requires
     plus-requires

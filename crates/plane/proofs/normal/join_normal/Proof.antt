@@ -47,8 +47,8 @@ returns-2 c =
     ) at (c .if2 .taken) in
     rw (c1 .before .before .before .turned .ensures, large, small)
 
-over-requires : tie.Need-over-requires
-over-requires c κs = search needs
+divided-requires : tie.Need-divided-requires
+divided-requires c κs = search needs
 
 returns-3 : tie.Need-returns-3
 unfolding normalOf
@@ -66,7 +66,7 @@ returns-3 c =
       c1 .before .before .before .turned .ensures,
     ) at (c2 .if2 .left) in
     rw (
-      c .over .ensures,
+      c .divided .ensures,
       c2 .before .before .dot .ensures,
       c2 .before .before .before .turned2 .ensures,
       c2 .before .before .before .before .normalize .ensures,
@@ -89,5 +89,5 @@ join-normal-spec =
     dot-requires
     is-small-requires
     returns-2
-    over-requires
+    divided-requires
     returns-3)

@@ -10,13 +10,13 @@ square-length-requires c κs = search needs
 root-value-requires : tie.Need-root-value-requires
 root-value-requires c κs = search needs
 
-over-requires : tie.Need-over-requires
-over-requires c κs = search needs
+divided-requires : tie.Need-divided-requires
+divided-requires c κs = search needs
 
 returns : tie.Need-returns
 unfolding lengthOf normalizeOf
-returns c = rw (c .over .ensures, c .before .root-value .ensures, c .before .before .square-length .ensures)
+returns c = rw (c .divided .ensures, c .before .root-value .ensures, c .before .before .square-length .ensures)
 
 pub normalize-spec : {M : Type 1} → statement M
 normalize-spec =
-    tie.close (tie.spec square-length-requires root-value-requires over-requires returns)
+    tie.close (tie.spec square-length-requires root-value-requires divided-requires returns)

@@ -7,8 +7,8 @@ use Rattle.vertices.proofs.base.put_base_vertex.Tie as tie
 minus-requires : tie.Need-minus-requires
 minus-requires c κs = search needs
 
-over-requires : tie.Need-over-requires
-over-requires c κs = search needs
+divided-requires : tie.Need-divided-requires
+divided-requires c κs = search needs
 
 times-requires : tie.Need-times-requires
 times-requires c κs = search needs
@@ -26,14 +26,14 @@ returns : tie.Need-returns
 unfolding baseVertexOf
 returns c =
     let d = c .before .before in
-    rw (d .put-vertex .ensures, d .before .before .plus .ensures, d .before .before .before .times .ensures, d .before .before .before .before .over .ensures, d .before .before .before .before .before .minus .ensures)
+    rw (d .put-vertex .ensures, d .before .before .plus .ensures, d .before .before .before .times .ensures, d .before .before .before .before .divided .ensures, d .before .before .before .before .before .minus .ensures)
 
 pub put-base-vertex-spec : {M : Type 1} → statement M
 put-base-vertex-spec =
     tie.close
     (tie.spec
     minus-requires
-    over-requires
+    divided-requires
     times-requires
     plus-requires
     put-vertex-requires

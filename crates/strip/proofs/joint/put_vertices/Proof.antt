@@ -1,4 +1,4 @@
--- `strip::joint::write_vertices` meets its contract. The plan: the positive side's vertices at the start, the negative side's in the part behind them, whose place
+-- `strip::joint::put_vertices` meets its contract. The plan: the positive side's vertices at the start, the negative side's in the part behind them, whose place
 -- the count gives: Writing's `spelt-behind`. Assumes nothing.
 use mathlib.Core.Path.{refl, sym, _∙_}
 use native.Mathlib.Omega.{arith}
@@ -8,8 +8,8 @@ use Rattle.vertices.proofs.Laws.{length-side}
 use Rattle.strip.specs.Joint.{jointVerticesOf}
 use Rattle.strip.proofs.Writing.{spelt-behind}
 use borrow.Author.Needs.{needs}
-use Rattle.strip.proofs.joint.write_vertices.Statement.{statement}
-use Rattle.strip.proofs.joint.write_vertices.Tie as tie
+use Rattle.strip.proofs.joint.put_vertices.Statement.{statement}
+use Rattle.strip.proofs.joint.put_vertices.Tie as tie
 
 add-join-base-vertices-requires : tie.Need-add-join-base-vertices-requires
 add-join-base-vertices-requires c κs = search needs
@@ -49,8 +49,8 @@ returns c =
     spelt-behind floatsOf 5 (λ x. refl) (sideVerticesOf j (j .positive)) (sideVerticesOf j (j .negative)) _ _ _ _ (omega (arith, many, first .before .before .before .pre)) many
     (first .add-join-base-vertices .ensures) (second .add-join-base-vertices2 .ensures)
 
-pub write-vertices-spec : {M : Type 1} → statement M
-write-vertices-spec =
+pub put-vertices-spec : {M : Type 1} → statement M
+put-vertices-spec =
     tie.close
     (tie.spec
     add-join-base-vertices-requires

@@ -1,4 +1,4 @@
--- `strip::triangle::write_triangle` meets its contract. Assumes nothing.
+-- `strip::triangle::put_different` meets its contract. Assumes nothing.
 use mathlib.Core.Path.{refl, sym, ap, _∙_}
 use native.Mathlib.Omega.{arith}
 use lib.ListN.{length}
@@ -7,8 +7,8 @@ use Rattle.vertices.specs.Vertex.{triangleOf}
 use Rattle.lists.specs.Over.{flat}
 use Rattle.strip.proofs.Triangles.{tri-some, tri-none}
 use borrow.Author.Needs.{needs}
-use Rattle.strip.proofs.triangle.write_triangle.Statement.{statement}
-use Rattle.strip.proofs.triangle.write_triangle.Tie as tie
+use Rattle.strip.proofs.triangle.put_different.Statement.{statement}
+use Rattle.strip.proofs.triangle.put_different.Tie as tie
 
 different-requires : tie.Need-different-requires
 different-requires c κs = search needs
@@ -33,6 +33,6 @@ returns-2 c =
     let none = tri-none _ _ _ (sym (c .before .different .ensures) ∙ c .if1 .left) in
     rw none (refl, sym (over-none _))
 
-pub write-triangle-spec : {M : Type 1} → statement M
-write-triangle-spec =
+pub put-different-spec : {M : Type 1} → statement M
+put-different-spec =
     tie.close (tie.spec different-requires put-triangle-requires same-length returns returns-2)
