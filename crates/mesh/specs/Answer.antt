@@ -39,7 +39,7 @@ unfoldable pub judgedOf : Tally → ℕ → ℕ → MeshAnswer
 judgedOf c vertexPlaces trianglePlaces =
     cond (ltb (c .short) (c .legs)) (withPlace (numberOf shortEdge) (c .short)) (roomedOf (c .vertices) (c .triangles) vertexPlaces trianglePlaces)
 
--- Room for the most that so many coordinates can need, two of them to a point (drive's `runs-bounded`)
+-- Room for the most that so many coordinates can need, two of them to a point (`runs-bounded` of runs)
 pub record Plenty (r : Rooms) (coords : ℕ) : Type 0 where
   pub vertices : 2 * coords ≤ r .vertices
   pub triangles : 2 * coords ≤ r .triangles

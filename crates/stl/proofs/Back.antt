@@ -1,16 +1,16 @@
 -- What was written is read back. A corner behind any bytes gives its two floats again (`corner-back`); a triangle's three stand behind its normal and behind each other
 -- (`facet-back`); a file's triangles behind the header, the count and each other (`facets-back`); and the tests of both calls pass (`reads-back`, `accepted-is`). Assumes nothing.
-use Prim.Native.Nat.{ℕ, zero, suc, _+_, _*_, _/_, _%_, _≤_, _<_}
+use Prim.Native.Nat.{ℕ, zero, suc, _+_, _*_, _/_, _≤_, _<_}
 use mathlib.Core.Path.{_≡_, refl, sym, ap, _∙_, subst}
 use mathlib.Core.Bool.{Bool, true, false, cond, _&&_}
 use mathlib.Core.List.{List, [], _∷_, _++_, append-assoc}
 use native.Mathlib.Omega.{arith}
 use borrow.Author.Tests.{ltb-false}
 use lib.Dec.{T, ltb}
-use lib.Ieee.{Float, nan, binary32, fits, ofBits, toBits}
+use lib.Ieee.{Float, binary32, fits, ofBits, toBits}
 use lib.Ieee.Bits.{ofBits-toBits, toBits-lt, is-true}
 use lib.ListN.{length, getD, take, length-append}
-use Rattle.refusals.specs.Numbers.{numberOf, accepted, fileRoom, badCorner, cornerRoom}
+use Rattle.refusals.specs.Numbers.{numberOf, accepted, fileRoom, badCorner}
 use Rattle.lists.specs.Over.{over, flat}
 use Rattle.lists.proofs.Laws.{take-over, length-flat}
 use Rattle.plane.specs.declared.vector.Point.{Point}
@@ -19,8 +19,8 @@ use Rattle.stl.specs.Back.{Held, PlacesHeld, ReadsBack, written, Returns
 use Rattle.stl.specs.Bytes.{zeros, le32, wordAt}
 use Rattle.stl.specs.Corner.{finite, isZero, finiteCorner}
 use Rattle.stl.specs.Each.{each, firstBad}
-use Rattle.stl.specs.File.{cornerBytes, facetBytes, fileBytes, sizeOf, countIn, cornerAt, facetAt, facetsIn, cornersOf}
-use Rattle.stl.specs.Read.{fineCorner, fineFacet, readOf, unread}
+use Rattle.stl.specs.File.{cornerBytes, facetBytes, fileBytes, sizeOf, countIn, cornerAt, facetAt, cornersOf}
+use Rattle.stl.specs.Read.{fineCorner, fineFacet}
 use Rattle.stl.specs.Write.{cornerOf, fineVertex, fineTriangle, facetOf, facetsOf, firstRefused, countLimit, tooShort, unwritten, WriteOutcome, writeOf}
 use Rattle.stl.specs.declared.facet.Facet.{Facet}
 use Rattle.stl.proofs.Corner.{both}

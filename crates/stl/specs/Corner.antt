@@ -1,5 +1,4 @@
 -- What a corner may be: "a corner that is not finite, a z that isn't zero" are refused. Assumes nothing.
-use Prim.Native.Nat.{ℕ}
 use mathlib.Core.Bool.{Bool, true, false, _&&_}
 use lib.Dec.{eqb}
 use lib.Ieee.{Float, nan, inf, fin}

@@ -9,7 +9,6 @@ use crate::facets::first_damaged;
 use crate::facets::put_corners;
 use crate::words::word;
 ghost use mathlib.Core.Path.{_≡_};
-ghost use lib.ListN.{length};
 ghost use Rattle.lists.specs.Over.{over, flat};
 ghost use Rattle.stl.specs.Each.{each};
 ghost use Rattle.stl.specs.File.{facetAt, cornersOf};

@@ -1,13 +1,10 @@
 -- `stl_write::put_facets` meets its contract. Assumes nothing.
 use borrow.Author.Needs.{needs}
 use Prim.Native.Nat.{_-_, _/_}
-use mathlib.Core.Path.{ap, _∙_}
 use native.Mathlib.Omega.{arith}
 use lib.ListN.{length, length-take, length-drop}
-use Rattle.lists.specs.Over.{over}
 use Rattle.stl.specs.File.{facetBytes}
 use Rattle.stl.specs.Write.{facetOf}
-use Rattle.stl.specs.declared.facet.Facet.{Facet}
 use Rattle.stl.proofs.Each.{Row, row-none, row-room, row-turn, row-done}
 use Rattle.stl_write.proofs.Fine.{facet-finite}
 use Rattle.stl_write.proofs.Parts.{length-facet}
