@@ -17,6 +17,7 @@ use Rattle.lists.specs.Over.{over}
 use Rattle.pieces.specs.Piece.{flatV, flatT, behind, Lists, lent, Fits, Passes}
 use Rattle.pieces.specs.declared.Place.{Place}
 use Rattle.pieces.proofs.Pieces.{laid-start}
+use Rattle.path.specs.Limits.{countLimit}
 use Rattle.path.specs.Path.{Sound}
 use Rattle.path.specs.Runs.{Run, runsFrom, pointsOf}
 use Rattle.path.specs.Verbs.{endClosed, names}
@@ -52,12 +53,16 @@ runs-points n (v ∷ vs) ps = go (names v) (runs-points (n + 1) vs ps) (runs-poi
         let d : length (pointsOf (runsFrom 0 vs (drop n ps))) ≤ length ps - n = simp length-drop at b in
         simp (length-append, length-take) (omega arith)
 
--- "Counts' bounds", to a verb: so many vertices and no more triangles, so that a number in the triangle list holds every vertex's
+-- "the counts' bounds", to a verb: so many vertices and no more triangles
 module _ (o : Stroke) (vs : List ℕ) (cs : List Float) (s : Sound vs cs) where
   pub counts-bounded : Bounded (length vs) (meshCounts o (runsOf vs cs))
   counts-bounded =
       let b = runs-bounded o (runsOf vs cs) in
       record { vertices = omega (arith, b .vertices, runs-points 0 vs (endpointsOf 0 cs), points-length cs 0, s .paired, count-le vs); triangles = b .triangles }
+
+  -- "once over the verb limit": a u32 holds the number of every vertex
+  pub counts-limited : (meshCount o (runsOf vs cs) ≤ countLimit) × (length (meshTriangles o 0 (runsOf vs cs)) ≤ countLimit)
+  counts-limited = let b = counts-bounded in (omega (arith, b .vertices, s .few), omega (arith, b .vertices, b .triangles, s .few))
 
   -- the same by the coordinates
   few-vertices : meshCount o (runsOf vs cs) ≤ 2 * length cs
@@ -68,9 +73,9 @@ module _ (o : Stroke) (vs : List ℕ) (cs : List Float) (s : Sound vs cs) where
 
   pub counts-fit : (l : Lists) → Fits false undrawn (meshPiece o undrawn (runsOf vs cs)) l
   counts-fit l =
-      let b = counts-bounded in
+      let b = counts-limited in
       let n = length-vertices o (runsOf vs cs) in
-      record { numbers = omega (arith, b .vertices, s .few); faces = omega (arith, b .vertices, b .triangles, s .few); vertices = λ w. absurd (false≢true w); triangles = λ w. absurd (false≢true w) }
+      record { numbers = omega (arith, b .0); faces = omega (arith, b .1); vertices = λ w. absurd (false≢true w); triangles = λ w. absurd (false≢true w) }
 
   room-fits : (l : Lists) → meshCount o (runsOf vs cs) ≤ length (l .vertices) / 5 → length (meshTriangles o 0 (runsOf vs cs)) ≤ length (l .triangles) / 3
       → Fits true undrawn (meshPiece o undrawn (runsOf vs cs)) l

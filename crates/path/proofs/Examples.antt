@@ -2,11 +2,15 @@
 use mathlib.Core.Path.{_≡_, refl}
 use mathlib.Core.Bool.{Bool, true, _&&_}
 use mathlib.Core.List.{List, [], _∷_, map}
-use Prim.Native.Nat.{ℕ}
+use Prim.Native.Nat.{ℕ, _+_, _≤_, _<_}
 use lib.Dec.{eqb}
 use lib.Ieee.{neg, lt, eq, le, ofBits}
-use lib.ListN.{replicate}
+use lib.ListN.{length, replicate, length-replicate}
+use native.Mathlib.Omega.{arith}
+use borrow.Author.Tests.{lt-ltb, le-ltb}
+use Rattle.refusals.specs.Numbers.{verdict, tooManyVerbs, misplacedVerb}
 use Rattle.plane.specs.F32.{f32}
+use Rattle.path.specs.Limits.{verbLimit}
 use Rattle.path.specs.Verbs.{begin, line, endOpen, endClosed, names, named, placed, firstMisplaced, endsInside, pointCount}
 use Rattle.path.specs.Coordinates.{coordinateIn, firstOutside}
 use Rattle.path.specs.Path.{malformed, checkedOf}
@@ -26,8 +30,6 @@ pub cases : List Case
 cases =
     -- no verbs; a closed run and an open one
     path [] [] 0 0 ∷ path (begin ∷ line ∷ endClosed ∷ begin ∷ endOpen ∷ []) (0 ∷ 0 ∷ 0 ∷ 0 ∷ 0 ∷ 0 ∷ []) 0 0
-    -- 4,097 verbs get 2 before their first gets 3
-    ∷ path (replicate 4097 line) [] 2 0 ∷ path (replicate 4096 line) [] 3 0
     -- P7: line first: 3, place 0; begin only: 3, place 1
     ∷ path (line ∷ []) (0 ∷ 0 ∷ []) 3 0 ∷ path (begin ∷ []) (0 ∷ 0 ∷ []) 3 1
     -- an unknown verb, a begin inside a run, an end outside
@@ -45,3 +47,16 @@ cases =
 pub worked : every cases ≡ true
 unfolding every says cases checkedOf malformed names named placed firstMisplaced endsInside pointCount coordinateIn firstOutside neg lt eq le ofBits
 worked = refl
+
+-- More than 65,536 verbs get 2 before their first gets 3. So many are too long a list to compute over.
+pub many-lines : (n : ℕ) → verbLimit < n → checkedOf (replicate n line) [] ≡ verdict tooManyVerbs 0
+unfolding checkedOf
+many-lines n h = rw (length-replicate {A = ℕ} n line, lt-ltb verbLimit n h)
+
+pub lines-alone : (n : ℕ) → 1 + n ≤ verbLimit → checkedOf (line ∷ replicate n line) [] ≡ verdict misplacedVerb 0
+unfolding checkedOf malformed placed firstMisplaced
+lines-alone n h =
+    let m = length (line ∷ replicate n line) in
+    let some : 0 < m = omega arith in
+    let few : m ≤ verbLimit = omega (arith, length-replicate {A = ℕ} n line) in
+    rw (le-ltb verbLimit m few, lt-ltb 0 m some)

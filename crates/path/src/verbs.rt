@@ -12,7 +12,7 @@ pub const END_OPEN: u8 = 2;
 pub const END_CLOSED: u8 = 3;
 
 // No path has more verbs than this (refusal 2).
-pub const VERB_LIMIT: usize = 4096;
+pub const VERB_LIMIT: usize = 65536;
 
 // Whether a verb names a point. After one that does, the path is inside a run.
 pub fn names_point(verb: u8) -> bool

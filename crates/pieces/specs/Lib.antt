@@ -1,3 +1,2 @@
--- `Limits` is what a number in the triangle list can be; `Piece` what is written where, in one vocabulary for every layer.
-pub mod Limits
+-- `Piece` is what is written where, in one vocabulary for every layer.
 pub mod Piece

@@ -6,10 +6,10 @@ use mathlib.Core.Bool.{Bool, true}
 use mathlib.Core.List.{List, [], _∷_, _++_}
 use lib.Ieee.{Float}
 use lib.ListN.{length}
+use Rattle.endpoint.specs.Endpoint.{idLimit}
 use Rattle.endpoint.specs.declared.VertexId.{VertexId}
 use Rattle.lists.specs.Over.{putAt, flat}
 use Rattle.triangles.specs.Tri.{Tri, numbersOf}
-use Rattle.pieces.specs.Limits.{numberLimit}
 use Rattle.pieces.specs.declared.Place.{Place}
 
 -- "five f32 to a vertex (x, y, normal x, normal y, advancement)"
@@ -69,10 +69,10 @@ lent v t = record { vertices = v; triangles = t }
 abbrev pub laid : Place → Piece → Lists → Lists
 laid k p l = record { vertices = putAt (5 * k .vertices) (flatV (p .vertices)) (l .vertices); triangles = putAt (3 * k .triangles) (flatT (p .triangles)) (l .triangles) }
 
--- What a pass needs that writes a piece at a place, or only counts it: a u16 holds the numbers and, where it writes, there is room.
+-- What a pass needs that writes a piece at a place, or only counts it: a u32 holds the numbers and, where it writes, there is room.
 pub record Fits (write : Bool) (k : Place) (p : Piece) (l : Lists) : Type 0 where
-  pub numbers : nextVertex k + length (p .vertices) < numberLimit
-  pub faces : k .triangles + length (p .triangles) < numberLimit
+  pub numbers : nextVertex k + length (p .vertices) < idLimit
+  pub faces : k .triangles + length (p .triangles) < idLimit
   pub vertices : write ≡ true → 5 * (k .vertices + length (p .vertices)) ≤ length (l .vertices)
   pub triangles : write ≡ true → 3 * (k .triangles + length (p .triangles)) ≤ length (l .triangles)
 

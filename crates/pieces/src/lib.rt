@@ -6,8 +6,8 @@ ghost use Prim.Native.Nat.{_<_};
 ghost use Rattle.endpoint.specs.Endpoint.{idLimit, vertexAfter};
 ghost use Rattle.pieces.specs.Piece.{nextVertex};
 
-// "three u16 to a triangle": what a number in the triangle list is held in.
-pub type Index = u16;
+// Three numbers of vertices to a triangle, each held as a `VertexId` holds it (W-205: "make the triangle list u32").
+pub type Index = u32;
 
 // Where a pass stands in the lists that it is lent: the number that the first vertex there has, and how many vertices and
 // triangles stand before.

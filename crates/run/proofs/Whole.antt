@@ -10,6 +10,7 @@ use lib.Dec.{ltb}
 use lib.Ieee.{Float}
 use lib.ListN.{length, take, length-drop}
 use Rattle.plane.specs.F32.{f32}
+use Rattle.endpoint.specs.Endpoint.{idLimit}
 use Rattle.endpoint.specs.declared.Endpoint.{Endpoint}
 use Rattle.endpoint.specs.declared.EndpointData.{EndpointData}
 use Rattle.endpoint.specs.declared.VertexId.{VertexId}
@@ -18,7 +19,6 @@ use Rattle.vertices.specs.Vertex.{triangleOf}
 use Rattle.vertices.proofs.Laws.{length-cap}
 use Rattle.lists.specs.Over.{over}
 use Rattle.lists.proofs.Parts.{part-is, put-part}
-use Rattle.pieces.specs.Limits.{numberLimit}
 use Rattle.pieces.specs.Piece.{flatV, flatT, Piece, joined, behind, from, Lists, lent, laid, Fits, Passes, Lays}
 use Rattle.pieces.specs.declared.Place.{Place}
 use Rattle.pieces.proofs.Pieces.{puts-both, fits-front, fits-back, laid-triangles, laid-start}
@@ -41,7 +41,7 @@ use Rattle.strip.proofs.Facts.Counts.{closed-count}
 use Rattle.strip.proofs.Joints.{length-vertices}
 use Rattle.strip.proofs.Pending.{puts-piece}
 use Rattle.strip.proofs.Runs.{triangles-are}
-use Rattle.strip.proofs.Steps.{sound-start, sound-steps}
+use Rattle.strip.proofs.Steps.{sound-start}
 use Rattle.run.specs.Run.{Shape, nothing, emptyCap, along, shapeCount, shapeVertices, shapeTriangles, shapeOfKept, shapeOf, shapePiece, DrawFits, Draws}
 use Rattle.run.specs.Round.{roundPiece, Rounds, roundedOf}
 
@@ -96,7 +96,6 @@ module _ (o : Stroke) (p q : Endpoint) (ks : List Endpoint) where
 
     pub rounds : write ≡ true → Rounds s t1
     rounds w = record {
-      sound = rw (e .state) (sound-steps (startOf base) js (sound-start base) (closed-has o base js h .fits .numbers));
       few = omega (arith, round-fits .faces);
       room = round-fits .triangles w;
     }
@@ -129,7 +128,7 @@ module _ (o : Stroke) (closed : Bool) (base : VertexId) (p : Endpoint) where
   unfolding shapeTriangles
   cap-fits h = h
 
-  pub cap-room : {v : List Float} {t : List ℕ} → Fits true (from base) (shapePiece o closed base (emptyCap p)) (lent v t) → (20 ≤ length v) × (6 ≤ length t) × (base .0 + 4 ≤ numberLimit)
+  pub cap-room : {v : List Float} {t : List ℕ} → Fits true (from base) (shapePiece o closed base (emptyCap p)) (lent v t) → (20 ≤ length v) × (6 ≤ length t) × (base .0 + 4 ≤ idLimit)
   unfolding shapeVertices shapeTriangles
   cap-room h = let n = length-cap (p .position) (o .«half_width») (f32 0) in (omega (arith, h .vertices refl), omega (arith, h .triangles refl), omega (arith, h .numbers))
 

@@ -12,7 +12,7 @@ use lib.ListN.{length, drop, getD}
 use Rattle.endpoint.specs.declared.Endpoint.{Endpoint}
 use Rattle.endpoint.specs.declared.VertexId.{VertexId}
 use Rattle.pieces.specs.Piece.{Piece, joined, behind, from, nextVertex, anew, Lists, lent, Fits, Passes}
-use Rattle.pieces.specs.Limits.{numberLimit}
+use Rattle.endpoint.specs.Endpoint.{idLimit}
 use Rattle.pieces.specs.declared.Place.{Place}
 use Rattle.pieces.proofs.Pieces.{puts-none, puts-both, fits-front, fits-back, reached, parts-fit, parts-put}
 use Rattle.options.specs.declared.Stroke.{Stroke}
@@ -71,7 +71,7 @@ module _ (o : Stroke) (g : Cursor) (verb : ℕ) (ps : List Endpoint) where
       drawn : Passes write (anew (g .place)) run (lent (midOf a (length v - a) v) (midOf b (length t - b) t)) (lent v' t') r
       drawn = rw (ev, eq) at e
 
-      pub part-few : (nextVertex (g .place) + r .vertices < numberLimit) × (g .place .triangles + r .triangles < numberLimit)
+      pub part-few : (nextVertex (g .place) + r .vertices < idLimit) × (g .place .triangles + r .triangles < idLimit)
       part-few = rw (drawn .place) (omega (arith, run-fits .numbers), omega (arith, run-fits .faces))
 
       pub part-puts : Passes write (g .place) (meshPiece o (g .place) (endedOf g verb ps)) (lent v t) (lent (putMid a (length v - a) v v') (putMid b (length t - b) t t')) (reached (g .place) run v t r)

@@ -30,7 +30,7 @@ module _ {write : Bool} {s : Strip} {l : Lists} where
   has-back xs ys h e =
       let f = rw (pieces-append s xs ys) at (h .fits) in
       rw (e .state) (record {
-        sound = sound-steps s xs (h .sound) (has-front xs ys h .fits .numbers);
+        sound = sound-steps s xs (h .sound);
         fits = pieces.fits-back (pieceOf s xs) (pieceOf (stepsOf s xs) ys) f (record { place = steps-place s xs; lists = e .lays });
       })
 

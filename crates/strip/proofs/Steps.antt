@@ -1,20 +1,17 @@
--- Laws of the state's steps, in this order: joints one behind the other, where a step comes to, and that a u16 holds the numbers of a state (`Sound`), from the
--- start of a run over all its joints. Assumes nothing.
-use Prim.Native.Nat.{ℕ, _+_, _<_}
+-- Laws of the state's steps, in this order: joints one behind the other, where a step comes to, and that a state's last section lies behind it (`Sound`),
+-- from the start of a run over all its joints. Assumes nothing.
+use Prim.Native.Nat.{_+_}
 use mathlib.Core.Path.{_≡_, refl, sym, _∙_}
-use mathlib.Core.Bool.{Bool, true, false, cond, true≢false}
+use mathlib.Core.Bool.{true≢false}
 use mathlib.Core.List.{List, [], _∷_, _++_, append-assoc}
 use native.Mathlib.Omega.{arith}
 use lib.ListN.{length}
 use Rattle.endpoint.specs.declared.EndpointData.{EndpointData}
 use Rattle.endpoint.specs.declared.VertexId.{VertexId}
 use Rattle.strip.specs.declared.Strip.{Strip}
-use Rattle.strip.specs.declared.section.Section.{Section}
 use Rattle.strip.specs.Joint.{jointCount, verticesOf}
-use Rattle.strip.specs.Section.{beforeOf, afterOf, Narrow}
 use Rattle.strip.specs.Strip.{startOf, nextOf, stepPiece, stepOf, stepsOf, trianglesFrom, pieceOf, Behind, Sound}
 use Rattle.strip.proofs.Joints.{joint-few, length-joint, vertices-append, length-more}
-use Rattle.pieces.specs.Limits.{numberLimit}
 use Rattle.pieces.specs.Piece.{joined, behind}
 use Rattle.pieces.proofs.Pieces.{joined-none, behind-none, behind-joined}
 
@@ -44,33 +41,14 @@ pub step-next : (s : Strip) (j : EndpointData) → nextOf (stepOf s j) ≡ nextO
 unfolding stepOf
 step-next s j = omega (arith, length-joint j)
 
--- sections whose numbers a u16 holds
-pub narrow-choice : (t : Bool) (a b : Section) → Narrow a → Narrow b → Narrow (cond t a b)
-narrow-choice true a b h g = h
-narrow-choice false a b h g = g
-
-pub narrow-before : (base : ℕ) (j : EndpointData) → base + jointCount j < numberLimit → Narrow (beforeOf base j)
-narrow-before base j h = omega arith
-
-pub narrow-after : (base : ℕ) (j : EndpointData) → base + jointCount j < numberLimit → Narrow (afterOf base j)
-narrow-after base j h = omega arith
-
 behind-step : (s : Strip) (j : EndpointData) → Behind (stepOf s j)
 unfolding stepOf
 behind-step s j = omega (arith, length-joint j, joint-few j)
 
 pub sound-start : (base : VertexId) → Sound (startOf base)
-sound-start base = record { first = omega arith; last = omega arith; behind = λ b. absurd (true≢false (sym b)) }
+sound-start base = record { behind = λ b. absurd (true≢false (sym b)) }
 
-sound-step : (s : Strip) (j : EndpointData) → Sound s → nextOf s + jointCount j < numberLimit → Sound (stepOf s j)
-unfolding stepOf
-sound-step s j o h = record {
-  first = narrow-choice (s .begun) (s .first) (beforeOf (nextOf s) j) (o .first) (narrow-before (nextOf s) j h);
-  last = narrow-after (nextOf s) j h;
-  behind = λ b. behind-step s j;
-}
-
-pub sound-steps : (s : Strip) (xs : List EndpointData) → Sound s → nextOf s + length (verticesOf xs) < numberLimit → Sound (stepsOf s xs)
+pub sound-steps : (s : Strip) (xs : List EndpointData) → Sound s → Sound (stepsOf s xs)
 unfolding stepsOf
-sound-steps s [] o h = o
-sound-steps s (x ∷ xs) o h = sound-steps (stepOf s x) xs (sound-step s x o (omega (arith, length-more x xs))) (omega (arith, length-more x xs, step-next s x))
+sound-steps s [] o = o
+sound-steps s (x ∷ xs) o = sound-steps (stepOf s x) xs (record { behind = λ b. behind-step s x })

@@ -8,8 +8,8 @@ use native.Mathlib.Omega.{arith}
 use borrow.Rule.Slice.PartMut.{midOf, putMid}
 use lib.Ieee.{Float}
 use lib.ListN.{length, length-append}
+use Rattle.endpoint.specs.Endpoint.{idLimit}
 use Rattle.endpoint.specs.declared.EndpointData.{EndpointData}
-use Rattle.pieces.specs.Limits.{numberLimit}
 use Rattle.lists.specs.Over.{over, flat}
 use Rattle.pieces.specs.Piece.{Piece, flatV, flatT, lent, laid, Fits}
 use Rattle.triangles.specs.Tri.{Tri, numbersOf}
@@ -19,11 +19,11 @@ use Rattle.pieces.proofs.Pieces.{laid-parts}
 use Rattle.strip.specs.declared.Strip.{Strip}
 use Rattle.strip.specs.declared.section.Section.{Section}
 use Rattle.strip.specs.Joint.{jointCount, jointVerticesOf}
-use Rattle.strip.specs.Section.{beforeOf, afterOf, Narrow}
+use Rattle.strip.specs.Section.{beforeOf, afterOf}
 use Rattle.strip.specs.Triangle.{past}
 use Rattle.strip.specs.Strip.{nextOf, stepTriangles, stepPiece, pieceOf, StripFits}
 use Rattle.strip.proofs.Joints.{length-joint}
-use Rattle.strip.proofs.Steps.{piece-one, narrow-choice, narrow-before, narrow-after}
+use Rattle.strip.proofs.Steps.{piece-one}
 
 -- xs and, in the part behind them, ys, each element spelt by n
 module _ {A B : Type 0} (f : A → List B) (n : ℕ) (size : (x : A) → length (f x) ≡ n) where
@@ -49,7 +49,7 @@ module _ {s : Strip} {j : EndpointData} {v : List Float} {t : List ℕ} (h : Str
   fits : Fits true (s .place) (stepPiece s j) (lent v t)
   fits = rw (piece-one s j) at (h .fits)
 
-  pub numbers-fit : nextOf s + jointCount j < numberLimit
+  pub numbers-fit : nextOf s + jointCount j < idLimit
   numbers-fit = omega (arith, fits .numbers, length-joint j)
 
   pub vertices-fit : 5 * (s .place .vertices + jointCount j) ≤ length v
@@ -62,11 +62,6 @@ module _ {s : Strip} {j : EndpointData} {v : List Float} {t : List ℕ} (h : Str
 
     pub triangles-fit : 3 * (s .place .triangles + length (past l b a)) ≤ length t
     triangles-fit = rw past-is at (fits .triangles refl)
-
-    pub narrow : Narrow l × Narrow b × Narrow a
-    narrow =
-        let before : Narrow b = rw (x .before) (narrow-before (nextOf s) j numbers-fit) in
-        (rw (x .last) (narrow-choice (s .begun) (s .last) b (h .sound .last) before), before, rw (x .after) (narrow-after (nextOf s) j numbers-fit))
 
     -- both parts are back
     pub joint-laid : (v' : List Float) (t' : List ℕ) → v' ≡ over (flatV (jointVerticesOf j)) (midOf (5 * s .place .vertices) (length v - 5 * s .place .vertices) v)

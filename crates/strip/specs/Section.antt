@@ -1,11 +1,10 @@
 -- Rule 9: the sections of a run. Assumes nothing.
-use Prim.Native.Nat.{ℕ, _+_, _-_, _<_}
+use Prim.Native.Nat.{ℕ, _+_, _-_}
 use mathlib.Core.List.{List, [], _∷_}
 use Rattle.endpoint.specs.Endpoint.{sideCountOf}
 use Rattle.endpoint.specs.declared.EndpointData.{EndpointData}
 use Rattle.strip.specs.declared.section.Section.{Section}
 use Rattle.strip.specs.Joint.{jointCount}
-use Rattle.pieces.specs.Limits.{numberLimit}
 
 -- "A section is (N, P), its negative and positive vertex."
 abbrev pub sectionOf : ℕ → ℕ → Section
@@ -23,8 +22,3 @@ afterOf base j = sectionOf (base + sideCountOf (j .positive) + sideCountOf (j .n
 unfoldable pub sections : ℕ → List EndpointData → List Section
 sections base [] = []
 sections base (j ∷ js) = beforeOf base j ∷ afterOf base j ∷ sections (base + jointCount j) js
-
--- a u16 holds the section's numbers
-pub record Narrow (s : Section) : Type 0 where
-  pub n : s .negative .0 < numberLimit
-  pub p : s .positive .0 < numberLimit

@@ -4,15 +4,15 @@ use mathlib.Core.Path.{_≡_}
 use mathlib.Core.Bool.{Bool, true, false, cond}
 use mathlib.Core.List.{List, [], _∷_, _++_}
 use mathlib.Core.Logic.{_≢_}
+use Rattle.endpoint.specs.Endpoint.{idLimit}
 use Rattle.endpoint.specs.declared.EndpointData.{EndpointData}
 use Rattle.endpoint.specs.declared.VertexId.{VertexId}
-use Rattle.pieces.specs.Limits.{numberLimit}
 use Rattle.pieces.specs.Piece.{nextVertex, Piece, Lists, from, behind, Fits, Lays}
 use Rattle.triangles.specs.Tri.{Tri}
 use Rattle.strip.specs.declared.Strip.{Strip}
 use Rattle.strip.specs.declared.section.Section.{Section}
 use Rattle.strip.specs.Joint.{jointVerticesOf, verticesOf}
-use Rattle.strip.specs.Section.{sectionOf, beforeOf, afterOf, Narrow}
+use Rattle.strip.specs.Section.{sectionOf, beforeOf, afterOf}
 use Rattle.strip.specs.Triangle.{past}
 
 -- "Vertex numbers go on over all runs": a run starts where the last ended
@@ -77,18 +77,16 @@ pub record Behind (s : Strip) : Type 0 where
   pub positive : s .last .positive .0 < nextOf s
   pub apart : s .last .negative .0 ≢ s .last .positive .0
 
--- a u16 holds the numbers that the state remembers
+-- so it is of a state that steps came to
 pub record Sound (s : Strip) : Type 0 where
-  pub first : Narrow (s .first)
-  pub last : Narrow (s .last)
   pub behind : s .begun ≡ true → Behind s
 
--- what a step by p and n vertices needs: a u16 holds the numbers
+-- what a step by p and n vertices needs: a u32 holds the numbers
 pub record StepFits (s : Strip) (p n : ℕ) : Type 0 where
   pub positive : (1 ≤ p) × (p ≤ 2)
   pub negative : (1 ≤ n) × (n ≤ 2)
-  pub numbers : nextOf s + (p + n) < numberLimit
-  pub faces : s .place .triangles < numberLimit
+  pub numbers : nextOf s + (p + n) < idLimit
+  pub faces : s .place .triangles < idLimit
 
 -- what a pass over the joints js needs
 pub record StripFits (write : Bool) (s : Strip) (js : List EndpointData) (l : Lists) : Type 0 where

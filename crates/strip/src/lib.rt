@@ -18,11 +18,11 @@ ghost use mathlib.Core.Path.{_≡_};
 ghost use mathlib.Core.List.{[], _∷_};
 ghost use Prim.Native.Nat.{_+_, _-_, _*_, _≤_, _<_};
 ghost use lib.ListN.{length};
+ghost use Rattle.endpoint.specs.Endpoint.{idLimit};
 ghost use Rattle.lists.specs.Over.{over};
 ghost use Rattle.pieces.specs.Piece.{flatT, lent, laid, Lays};
 ghost use Rattle.strip.specs.Triangle.{between};
-ghost use Rattle.strip.specs.Strip.{Sound, StripFits, StepFits, startOf, steppedOf, pieceOf};
-ghost use Rattle.pieces.specs.Limits.{numberLimit};
+ghost use Rattle.strip.specs.Strip.{StripFits, StepFits, startOf, steppedOf, pieceOf};
 
 pub mod joint;
 pub mod section;
@@ -85,7 +85,7 @@ pub fn lay_joint_if(v: &mut [f32], t: &mut [Index], s: Strip, j: EndpointData, w
 
 // Each vertex brings a triangle, but for the first two of a run.
 fn more_triangles(begun: bool, triangles: usize, vertices: usize) -> usize
-    requires { ⌜ (triangles < numberLimit) × (2 ≤ vertices) × (vertices ≤ 4) ⌝ }
+    requires { ⌜ (triangles < idLimit) × (2 ≤ vertices) × (vertices ≤ 4) ⌝ }
     ensures { λ r. ⌜ r ≡ cond begun (triangles + vertices) (triangles + vertices - 2) ⌝ }
 {
     if begun {
@@ -125,7 +125,6 @@ pub fn step(s: Strip, positive: usize, negative: usize) -> Strip
 // A closed run goes round to its first section. The result is the number of triangles.
 pub fn put_close(t: &mut [Index], s: Strip) -> usize
     requires { ⌜ 3 * length (between (s .last) (s .first)) ≤ length (now t) ⌝ }
-    requires { ⌜ Sound s ⌝ }
     ensures { λ r. ⌜ r ≡ length (between (s .last) (s .first)) ⌝ }
     ensures { λ _. ⌜ now (t .exit) ≡ over (flatT (between (s .last) (s .first))) (now (t .entry)) ⌝ }
 {

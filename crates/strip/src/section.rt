@@ -7,8 +7,8 @@ use endpoint::vertex_after;
 ghost use mathlib.Core.Path.{_≡_};
 ghost use mathlib.Core.Bool.{cond};
 ghost use Prim.Native.Nat.{_+_, _<_};
+ghost use Rattle.endpoint.specs.Endpoint.{idLimit};
 ghost use Rattle.strip.specs.Joint.{jointCount};
-ghost use Rattle.pieces.specs.Limits.{numberLimit};
 ghost use Rattle.strip.specs.Section.{beforeOf, afterOf};
 
 // The vertices N and P.
@@ -19,7 +19,7 @@ pub struct Section {
 
 // The section before a joint whose vertices are numbered from base: the first vertex of each side.
 pub fn before(base: VertexId, j: EndpointData) -> Section
-    requires { ⌜ base .0 + jointCount j < numberLimit ⌝ }
+    requires { ⌜ base .0 + jointCount j < idLimit ⌝ }
     ensures { λ r. ⌜ r ≡ beforeOf (base .0) j ⌝ }
 {
     Section {
@@ -30,7 +30,7 @@ pub fn before(base: VertexId, j: EndpointData) -> Section
 
 // The section after it: the last vertex of each side.
 pub fn after(base: VertexId, j: EndpointData) -> Section
-    requires { ⌜ base .0 + jointCount j < numberLimit ⌝ }
+    requires { ⌜ base .0 + jointCount j < idLimit ⌝ }
     ensures { λ r. ⌜ r ≡ afterOf (base .0) j ⌝ }
 {
     let p = positive_count(j);

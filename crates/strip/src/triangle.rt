@@ -4,13 +4,11 @@ use endpoint::VertexId;
 use pieces::Index;
 use vertices::list::put_triangle;
 ghost use mathlib.Core.Path.{_≡_};
-ghost use Prim.Native.Nat.{_*_, _≤_, _<_};
+ghost use Prim.Native.Nat.{_*_, _≤_};
 ghost use lib.ListN.{length};
 ghost use Rattle.lists.specs.Over.{over};
-ghost use Rattle.strip.specs.Section.{Narrow};
 ghost use Rattle.pieces.specs.Piece.{flatT};
 ghost use Rattle.strip.specs.Triangle.{different, triOf, between, past};
-ghost use Rattle.pieces.specs.Limits.{numberLimit};
 
 // Whether no two of the vertices are the same.
 fn different(a: VertexId, b: VertexId, c: VertexId) -> bool
@@ -28,7 +26,6 @@ fn different(a: VertexId, b: VertexId, c: VertexId) -> bool
 // A triangle, left out if two of its numbers are equal. The result is the number of triangles.
 fn put_different(t: &mut [Index], a: VertexId, b: VertexId, c: VertexId) -> usize
     requires { ⌜ 3 * length (triOf (a .0) (b .0) (c .0)) ≤ length (now t) ⌝ }
-    requires { ⌜ (a .0 < numberLimit) × (b .0 < numberLimit) × (c .0 < numberLimit) ⌝ }
     ensures { λ r. ⌜ r ≡ length (triOf (a .0) (b .0) (c .0)) ⌝ }
     ensures { λ _. ⌜ now (t .exit) ≡ over (flatT (triOf (a .0) (b .0) (c .0))) (now (t .entry)) ⌝ }
 {
@@ -42,7 +39,6 @@ fn put_different(t: &mut [Index], a: VertexId, b: VertexId, c: VertexId) -> usiz
 // (N, P, P') and (N, P', N'). The result is the number of triangles.
 pub fn put_between(t: &mut [Index], s: Section, e: Section) -> usize
     requires { ⌜ 3 * length (between s e) ≤ length (now t) ⌝ }
-    requires { ⌜ Narrow s × Narrow e ⌝ }
     ensures { λ r. ⌜ r ≡ length (between s e) ⌝ }
     ensures { λ _. ⌜ now (t .exit) ≡ over (flatT (between s e)) (now (t .entry)) ⌝ }
 {
@@ -55,7 +51,6 @@ pub fn put_between(t: &mut [Index], s: Section, e: Section) -> usize
 // To the section before a joint, and on to the one after it. The result is the number of triangles.
 pub fn put_past(t: &mut [Index], last: Section, b: Section, a: Section) -> usize
     requires { ⌜ 3 * length (past last b a) ≤ length (now t) ⌝ }
-    requires { ⌜ Narrow last × Narrow b × Narrow a ⌝ }
     ensures { λ r. ⌜ r ≡ length (past last b a) ⌝ }
     ensures { λ _. ⌜ now (t .exit) ≡ over (flatT (past last b a)) (now (t .entry)) ⌝ }
 {

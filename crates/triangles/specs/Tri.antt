@@ -1,4 +1,4 @@
--- "three u16 to a triangle": the numbers of its three vertices. Assumes nothing.
+-- "three .. to a triangle": the numbers of its three vertices. Assumes nothing.
 use Prim.Native.Nat.{ℕ}
 use mathlib.Core.List.{List, [], _∷_}
 

@@ -10,10 +10,10 @@ use plane::vector::times;
 ghost use mathlib.Core.Path.{_≡_};
 ghost use Prim.Native.Nat.{_+_, _≤_};
 ghost use lib.ListN.{length};
+ghost use Rattle.endpoint.specs.Endpoint.{idLimit};
 ghost use Rattle.lists.specs.Over.{over};
 ghost use Rattle.pieces.specs.Piece.{floatsOf, flatV, flatT};
 ghost use Rattle.vertices.specs.Cap.{capVertexOf, capPairOf, capVerticesOf, capTrianglesOf};
-ghost use Rattle.pieces.specs.Limits.{numberLimit};
 
 // A corner: its normal is the direction itself.
 fn put_corner(v: &mut [f32], position: Point, h: f32, a: f32, x: f32, y: f32)
@@ -50,7 +50,7 @@ pub fn tessellate_empty_square_cap(
     h: f32,
     a: f32,
 )
-    requires { ⌜ (20 ≤ length (now v)) × (6 ≤ length (now t)) × (base .0 + 4 ≤ numberLimit) ⌝ }
+    requires { ⌜ (20 ≤ length (now v)) × (6 ≤ length (now t)) × (base .0 + 4 ≤ idLimit) ⌝ }
     ensures { λ _. ⌜ now (v .exit) ≡ over (flatV (capVerticesOf position h a)) (now (v .entry)) ⌝ }
     ensures { λ _. ⌜ now (t .exit) ≡ over (flatT (capTrianglesOf base)) (now (t .entry)) ⌝ }
 {

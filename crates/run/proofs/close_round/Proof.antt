@@ -27,7 +27,7 @@ part-put-close-end : tie.Need-part-put-close-end
 part-put-close-end c = search needs
 
 put-close-requires : tie.Need-put-close-requires
-put-close-requires c κs = (close-room _ _ (asked (c .before)), asked (c .before) .sound)
+put-close-requires c κs = close-room _ _ (asked (c .before))
 
 same-length : tie.Need-same-length
 same-length c = search needs

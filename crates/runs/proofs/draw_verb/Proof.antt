@@ -6,7 +6,7 @@ use mathlib.Core.Bool.{false}
 use native.Mathlib.Omega.{arith}
 use lib.ListN.{length, length-take, length-drop}
 use Rattle.path.specs.Verbs.{names}
-use Rattle.pieces.specs.Limits.{numberLimit}
+use Rattle.endpoint.specs.Endpoint.{idLimit}
 use Rattle.pieces.specs.Piece.{nextVertex}
 use Rattle.pieces.proofs.Pieces.{puts-none, parts-inside}
 use Rattle.kept.proofs.Indexed.{points-part}
@@ -30,7 +30,7 @@ ends : (c : tie.After-place-of) → names (entry c .args .verb) ≡ false
 ends c = sym (c .before .before .before .before .before .before .names-point .ensures) ∙ c .before .before .before .before .before .if1 .left
 
 few : (c : tie.After-draw-run) → let k = entry (to-place-of (to-next-vertex c)) .args .g .place in
-    (nextVertex k + c .draw-run .result .vertices < numberLimit) × (k .triangles + c .draw-run .result .triangles < numberLimit)
+    (nextVertex k + c .draw-run .result .vertices < idLimit) × (k .triangles + c .draw-run .result .triangles < idLimit)
 few c =
     let n = to-next-vertex c in
     let a = to-place-of n in

@@ -3,7 +3,7 @@
 use borrow.Author.Needs.{needs}
 use native.Mathlib.Omega.{arith}
 use lib.ListN.{length-take, length-drop}
-use Rattle.strip.proofs.Writing.{Sections, numbers-fit, vertices-fit, triangles-fit, narrow, joint-laid}
+use Rattle.strip.proofs.Writing.{Sections, numbers-fit, vertices-fit, triangles-fit, joint-laid}
 use Rattle.strip.proofs.lay_joint.Statement.{statement}
 use Rattle.strip.proofs.lay_joint.Tie as tie
 
@@ -66,7 +66,7 @@ part-put-past-end c = search needs
 put-past-requires : tie.Need-put-past-requires
 put-past-requires c κs =
     let a = chosen (c .before) in
-    (simp (length-take, length-drop) (omega (arith, triangles-fit (entry a .pre) (told a))), narrow (entry a .pre) (told a))
+    simp (length-take, length-drop) (omega (arith, triangles-fit (entry a .pre) (told a)))
 
 same-length : tie.Need-same-length
 same-length c = search needs

@@ -15,11 +15,11 @@ entry c = c .before .before .before
 -- both have room
 room : (c : tie.After-put-different) → let a = entry c .args in 3 * (c .put-different .result + length (onNegative (a .s) (a .e))) ≤ length (a .t .now)
 unfolding between
-room c = omega (arith, c .put-different .ensures .0, simp length-append at (entry c .pre .0))
+room c = omega (arith, c .put-different .ensures .0, simp length-append at (entry c .pre))
 
 put-different-requires : tie.Need-put-different-requires
 unfolding between
-put-different-requires c κs = omega (arith, simp length-append at (c .before .before .pre .0))
+put-different-requires c κs = omega (arith, simp length-append at (c .before .before .pre))
 
 mul-at : tie.Need-mul-at
 mul-at c = omega (arith, room (c .before .before))
@@ -50,7 +50,7 @@ unfolding between
 returns c =
     let second = c .before .before in
     let first = second .before .before .before .before in
-    two-writers _ _ _ _ _ _ _ (entry first .pre .0) (first .put-different .ensures .0) (first .put-different .ensures .1) (second .put-different2 .ensures .0) (second .put-different2 .ensures .1)
+    two-writers _ _ _ _ _ _ _ (entry first .pre) (first .put-different .ensures .0) (first .put-different .ensures .1) (second .put-different2 .ensures .0) (second .put-different2 .ensures .1)
 
 pub put-between-spec : {M : Type 1} → statement M
 put-between-spec =

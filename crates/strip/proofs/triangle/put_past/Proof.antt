@@ -14,10 +14,10 @@ entry c = c .before .before .before
 
 -- both have room
 room : (c : tie.After-put-between) → let a = entry c .args in 3 * (c .put-between .result + length (between (a .b) (a .a))) ≤ length (a .t .now)
-room c = omega (arith, c .put-between .ensures .0, simp length-append at (entry c .pre .0))
+room c = omega (arith, c .put-between .ensures .0, simp length-append at (entry c .pre))
 
 put-between-requires : tie.Need-put-between-requires
-put-between-requires c κs = omega (arith, simp length-append at (c .before .before .pre .0))
+put-between-requires c κs = omega (arith, simp length-append at (c .before .before .pre))
 
 mul-at : tie.Need-mul-at
 mul-at c = omega (arith, room (c .before .before))
@@ -47,7 +47,7 @@ returns : tie.Need-returns
 returns c =
     let second = c .before .before in
     let first = second .before .before .before .before in
-    two-writers _ _ _ _ _ _ _ (entry first .pre .0) (first .put-between .ensures .0) (first .put-between .ensures .1) (second .put-between2 .ensures .0) (second .put-between2 .ensures .1)
+    two-writers _ _ _ _ _ _ _ (entry first .pre) (first .put-between .ensures .0) (first .put-between .ensures .1) (second .put-between2 .ensures .0) (second .put-between2 .ensures .1)
 
 pub put-past-spec : {M : Type 1} → statement M
 put-past-spec =

@@ -21,7 +21,7 @@ vertex-after-requires-2 : tie.Need-vertex-after-requires-2
 vertex-after-requires-2 c κs = search needs
 
 put-triangle-requires : tie.Need-put-triangle-requires
-put-triangle-requires c κs = rw (c .vertex-after2 .ensures, c .before .before .vertex-after .ensures) (omega (arith, c .before .before .before .before .before .before .before .before .before .pre))
+put-triangle-requires c κs = search needs
 
 sub-put-triangle : tie.Need-sub-put-triangle
 sub-put-triangle c = search needs
@@ -36,7 +36,7 @@ vertex-after-requires-3 : tie.Need-vertex-after-requires-3
 vertex-after-requires-3 c κs = search needs
 
 put-triangle-requires-2 : tie.Need-put-triangle-requires-2
-put-triangle-requires-2 c κs = let d = c .before .before .before .before .before .before .before in rw (c .vertex-after3 .ensures, d .vertex-after .ensures) (omega (arith, d .before .before .before .before .before .before .before .pre))
+put-triangle-requires-2 c κs = search needs
 
 same-length : tie.Need-same-length
 same-length c = search needs

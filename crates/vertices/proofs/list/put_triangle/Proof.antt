@@ -7,20 +7,11 @@ use borrow.Author.Needs.{needs}
 use Rattle.vertices.proofs.list.put_triangle.Statement.{statement}
 use Rattle.vertices.proofs.list.put_triangle.Tie as tie
 
-cast-t : tie.Need-cast-t
-cast-t c = search needs
-
 slice-write-t : tie.Need-slice-write-t
 slice-write-t c = search needs
 
-cast-t-2 : tie.Need-cast-t-2
-cast-t-2 c = search needs
-
 slice-write-t-2 : tie.Need-slice-write-t-2
 slice-write-t-2 c = simp length-set (omega arith)
-
-cast-t-3 : tie.Need-cast-t-3
-cast-t-3 c = search needs
 
 slice-write-t-3 : tie.Need-slice-write-t-3
 slice-write-t-3 c = search needs
@@ -30,17 +21,14 @@ same-length c = search needs
 
 returns : tie.Need-returns
 unfolding triangleOf
-returns c = over-three _ _ _ _ (c .before .before .before .pre .0)
+returns c = over-three _ _ _ _ (c .pre)
 
 pub put-triangle-spec : {M : Type 1} → statement M
 put-triangle-spec =
     tie.close
     (tie.spec
-    cast-t
     slice-write-t
-    cast-t-2
     slice-write-t-2
-    cast-t-3
     slice-write-t-3
     same-length
     returns)
