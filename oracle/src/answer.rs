@@ -1,6 +1,7 @@
 //! One answer to each line, over either implementation of the routines.
 
-use crate::case::{Case, JoinCase, MeshCase, Op, ReadCase, StlReadCase, StlWriteCase};
+use crate::case::{widened, Case, JoinCase, MeshCase, NarrowCase, Op, ReadCase};
+use crate::case::{StlReadCase, StlWriteCase, WidenCase};
 use crate::endpoint::{Endpoint, EndpointId, LineJoin, Points, NEGATIVE, POSITIVE};
 use crate::line::{filled_floats, filled_numbers, float_word, Line};
 use crate::outcome::{Outcome, Refusal};
@@ -9,7 +10,7 @@ use crate::plane::{point, vector};
 use crate::routines::Routines;
 use crate::vertices::Mesh;
 use crate::window::Window;
-use crate::{mesh, normal, reader, root, stl};
+use crate::{mesh, normal, reader, root, stl, widths};
 
 /// The answer to a line, without line feeds on either.
 pub fn answer<R: Routines>(line: &[u8]) -> String {
@@ -30,6 +31,8 @@ pub fn answer_case<R: Routines>(case: &Case) -> String {
         Case::Cap(floats) => answer_cap::<R>(*floats),
         Case::StlWrite(case) => answer_stl_write(case),
         Case::StlRead(case) => answer_stl_read(case),
+        Case::Widen(case) => answer_widen(case),
+        Case::Narrow(case) => answer_narrow(case),
     }
 }
 
@@ -177,6 +180,18 @@ fn answer_stl_read(case: &StlReadCase) -> String {
     let mut corners = filled_floats(case.corner_len);
     let answer = stl::read(&case.bytes, &mut corners);
     counted("stlread", answer).floats(&corners).done()
+}
+
+fn answer_widen(case: &WidenCase) -> String {
+    let mut list = filled_numbers(case.length);
+    let answer = widths::widen(&case.numbers, &mut list);
+    counted("widen", answer).numbers(&list).done()
+}
+
+fn answer_narrow(case: &NarrowCase) -> String {
+    let mut list = filled_numbers(case.length);
+    let answer = widths::narrow(&case.numbers, &mut list);
+    counted("narrow", answer).numbers(&widened(&list)).done()
 }
 
 /// One count, which a refusal does not carry.

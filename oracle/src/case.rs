@@ -23,6 +23,8 @@ pub enum Case {
     Cap([f32; 4]),
     StlWrite(StlWriteCase),
     StlRead(StlReadCase),
+    Widen(WidenCase),
+    Narrow(NarrowCase),
 }
 
 #[derive(Clone, Debug, PartialEq)]
@@ -45,13 +47,25 @@ pub struct ReadCase {
 pub struct StlWriteCase {
     pub byte_len: usize,
     pub vertices: Vec<f32>,
-    pub triangles: Vec<u16>,
+    pub triangles: Vec<u32>,
 }
 
 #[derive(Clone, Debug, PartialEq)]
 pub struct StlReadCase {
     pub corner_len: usize,
     pub bytes: Vec<u8>,
+}
+
+#[derive(Clone, Debug, PartialEq)]
+pub struct WidenCase {
+    pub length: usize,
+    pub numbers: Vec<u16>,
+}
+
+#[derive(Clone, Debug, PartialEq)]
+pub struct NarrowCase {
+    pub length: usize,
+    pub numbers: Vec<u32>,
 }
 
 #[derive(Clone, Copy, Debug, PartialEq, Eq)]
@@ -91,6 +105,8 @@ impl Case {
             b"cap" => Case::Cap(words.some_floats()?),
             b"stlwrite" => Case::StlWrite(stl_write(&mut words)?),
             b"stlread" => Case::StlRead(stl_read(&mut words)?),
+            b"widen" => Case::Widen(widen(&mut words)?),
+            b"narrow" => Case::Narrow(narrow(&mut words)?),
             _ => return None,
         };
         words.end()?;
@@ -123,6 +139,14 @@ impl Case {
             Case::StlRead(case) => Line::new("stlread")
                 .number(case.corner_len)
                 .bytes(&case.bytes)
+                .done(),
+            Case::Widen(case) => Line::new("widen")
+                .number(case.length)
+                .numbers(&widened(&case.numbers))
+                .done(),
+            Case::Narrow(case) => Line::new("narrow")
+                .number(case.length)
+                .numbers(&case.numbers)
                 .done(),
         }
     }
@@ -170,7 +194,7 @@ fn stl_write(words: &mut Words) -> Option<StlWriteCase> {
     Some(StlWriteCase {
         byte_len: words.number(MAX_FILE)?,
         vertices: words.list(Words::float)?,
-        triangles: words.list(|words| words.number(usize::from(u16::MAX)).map(|n| n as u16))?,
+        triangles: words.list(wide)?,
     })
 }
 
@@ -179,6 +203,30 @@ fn stl_read(words: &mut Words) -> Option<StlReadCase> {
         corner_len: words.number(MAX_VERTEX_LIST)?,
         bytes: words.bytes()?,
     })
+}
+
+fn widen(words: &mut Words) -> Option<WidenCase> {
+    Some(WidenCase {
+        length: words.number(MAX_TRIANGLE_LIST)?,
+        numbers: words.list(|words| words.number(usize::from(u16::MAX)).map(|n| n as u16))?,
+    })
+}
+
+fn narrow(words: &mut Words) -> Option<NarrowCase> {
+    Some(NarrowCase {
+        length: words.number(MAX_TRIANGLE_LIST)?,
+        numbers: words.list(wide)?,
+    })
+}
+
+/// A number that a u32 holds.
+fn wide(words: &mut Words) -> Option<u32> {
+    words.number(u32::MAX as usize).map(|n| n as u32)
+}
+
+/// The same numbers, as lines print them.
+pub fn widened(numbers: &[u16]) -> Vec<u32> {
+    numbers.iter().map(|&n| n.into()).collect()
 }
 
 fn op(word: &[u8]) -> Option<Op> {

@@ -3,7 +3,7 @@
 //!
 //! From the leaves up: `plane`, `root`, `normal`, `endpoint`, `window`, `edge`, `join`,
 //! `vertices` (the reading of the routines), `routines` (what the driver asks of them), `path`,
-//! `strip`, `mesh` (the driver), `decimal`, `reader`, `program`, `stl`. `shim` and `text` hold the cut text.
+//! `strip`, `mesh` (the driver), `decimal`, `reader`, `program`, `stl`, `widths`. `shim` and `text` hold the cut text.
 //! `line`, `case`, `answer` are the cases and answers, `gen` makes cases.
 
 pub mod answer;
@@ -30,6 +30,7 @@ pub mod strip;
 #[cfg(lyon_text)]
 pub mod text;
 pub mod vertices;
+pub mod widths;
 pub mod window;
 
 /// Who judges: the cut text where it is at hand, else our own reading.

@@ -134,11 +134,11 @@ impl Line {
         self.number(floats.len()).some_floats(floats)
     }
 
-    pub fn numbers(self, numbers: &[u16]) -> Line {
+    pub fn numbers(self, numbers: &[u32]) -> Line {
         numbers
             .iter()
             .fold(self.number(numbers.len()), |line, &number| {
-                line.number(usize::from(number))
+                line.number(number as usize)
             })
     }
 

@@ -93,7 +93,7 @@ pub fn mesh<R: Routines>(
     path: Path,
     options: Options,
     vertices: &mut [f32],
-    triangles: &mut [u16],
+    triangles: &mut [u32],
 ) -> Outcome {
     let mesh = match drawn::<R>(path, options) {
         Ok(mesh) => mesh,

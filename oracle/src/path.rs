@@ -8,7 +8,8 @@ pub const LINE: u8 = 1;
 pub const END_OPEN: u8 = 2;
 pub const END_CLOSED: u8 = 3;
 
-pub const MAX_VERBS: usize = 4096;
+/// W-205: "Raise 4,096 verbs to 65,536".
+pub const MAX_VERBS: usize = 65_536;
 pub const MAX_COORDINATE: f32 = 32_768.0;
 
 #[derive(Clone, Copy, Debug)]

@@ -15,8 +15,14 @@ const OPTIONS: Options = Options {
     merge: 1.0 / 128.0,
 };
 
+/// W-205: "the program keeps its buffers and gives 8 above 16,384 bytes"
+pub const MAX_TEXT: usize = 16_384;
+
 /// What the program prints for a text.
 pub fn run<R: Routines>(text: &[u8]) -> String {
+    if text.len() > MAX_TEXT {
+        return refused(8, 0);
+    }
     let mut verbs = [0; 1024];
     let mut coordinates = [0.0; 2048];
     let read = read(text, &mut verbs, &mut coordinates);
@@ -42,7 +48,7 @@ fn refused(number: u32, place: usize) -> String {
     format!("refused {} {}\n", number, place)
 }
 
-fn printed(vertices: &[f32], triangles: &[u16]) -> Result<String, std::fmt::Error> {
+fn printed(vertices: &[f32], triangles: &[u32]) -> Result<String, std::fmt::Error> {
     let mut out = String::new();
     writeln!(out, "v {}", vertices.len() / 5)?;
     for v in vertices.chunks_exact(5) {

@@ -4,7 +4,8 @@ use crate::decimal::Number;
 use crate::outcome::{refuse_if, Outcome, Refusal};
 use crate::path::{BEGIN, END_CLOSED, END_OPEN, LINE, MAX_VERBS};
 
-pub const MAX_TEXT: usize = 16_384;
+/// W-205: "The reader's text limit becomes 1 MiB".
+pub const MAX_TEXT: usize = 1_048_576;
 const MAX_NUMBER: f32 = 32_768.0;
 
 #[derive(Clone, Copy, PartialEq)]

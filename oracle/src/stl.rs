@@ -21,9 +21,9 @@ fn size(count: usize) -> u128 {
 
 /// Writes an accepted mesh: how many bytes, or refusal 14 or 16.
 /// Vertices are five floats each and triangles three numbers each; what is left over is no part.
-pub fn write(vertices: &[f32], triangles: &[u16], bytes: &mut [u8]) -> Result<usize, Refusal> {
+pub fn write(vertices: &[f32], triangles: &[u32], bytes: &mut [u8]) -> Result<usize, Refusal> {
     let vertices: Vec<&[f32]> = vertices.chunks_exact(5).collect();
-    let triangles: Vec<&[u16]> = triangles.chunks_exact(3).collect();
+    let triangles: Vec<&[u32]> = triangles.chunks_exact(3).collect();
     let whole = size(triangles.len());
     let uncounted = u32::try_from(triangles.len()).is_err();
     refuse_if(uncounted || (bytes.len() as u128) < whole, 14, 0)?;
@@ -38,10 +38,10 @@ pub fn write(vertices: &[f32], triangles: &[u16], bytes: &mut [u8]) -> Result<us
 }
 
 /// Nothing where a number has no vertex or a corner is not finite.
-fn corners_of(vertices: &[&[f32]], numbers: &[u16]) -> Option<Corners> {
+fn corners_of(vertices: &[&[f32]], numbers: &[u32]) -> Option<Corners> {
     let mut corners = Corners::default();
     for (corner, &number) in corners.iter_mut().zip(numbers) {
-        let vertex = vertices.get(usize::from(number))?;
+        let vertex = vertices.get(number as usize)?;
         *corner = [vertex[0], vertex[1]];
     }
     finite(&corners).then_some(corners)

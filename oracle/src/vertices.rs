@@ -7,7 +7,7 @@ use crate::plane::{vector, Point, Vector};
 #[derive(Clone, Debug, Default, PartialEq)]
 pub struct Mesh {
     pub vertices: Vec<[f32; 5]>,
-    pub triangles: Vec<[u16; 3]>,
+    pub triangles: Vec<[u32; 3]>,
 }
 
 impl Mesh {
@@ -19,8 +19,7 @@ impl Mesh {
     }
 
     pub fn add_triangle(&mut self, corners: [VertexId; 3]) {
-        // At most 4,096 points of at most four vertices each: every number fits.
-        self.triangles.push(corners.map(|corner| corner.0 as u16));
+        self.triangles.push(corners.map(|corner| corner.0));
     }
 }
 

@@ -1,7 +1,7 @@
 //! One case given to both sides.
 
 use crate::list::List;
-use oracle::case::{Case, MeshCase, ReadCase, StlReadCase, StlWriteCase};
+use oracle::case::{Case, MeshCase, NarrowCase, ReadCase, StlReadCase, StlWriteCase, WidenCase};
 use oracle::gen::Rng;
 use oracle::mesh::mesh;
 use oracle::normal::public_normal;
@@ -11,20 +11,22 @@ use oracle::plane::vector;
 use oracle::reader::read;
 use oracle::root::public_root;
 use oracle::routines::Routines;
-use oracle::{stl, Judge};
+use oracle::{stl, widths, Judge};
 use stipeharbor::raw;
 
 /// The lists of all calls, kept between cases.
 #[derive(Default)]
 pub struct Lists {
     vertices: List<f32>,
-    triangles: List<u16>,
+    triangles: List<u32>,
     verbs: List<u8>,
     coordinates: List<f32>,
     answer: List<usize>,
     values: List<f32>,
     bytes: List<u8>,
     corners: List<f32>,
+    wide: List<u32>,
+    narrowed: List<u16>,
 }
 
 /// The number that both sides answered, or what differs.
@@ -42,6 +44,8 @@ impl Lists {
             Case::Normal(floats) => self.hold_normal(*floats, length),
             Case::StlWrite(case) => self.hold_stl_write(case),
             Case::StlRead(case) => self.hold_stl_read(case),
+            Case::Widen(case) => self.hold_widen(case),
+            Case::Narrow(case) => self.hold_narrow(case),
             _ => Err("no call of the library".to_string()),
         }
     }
@@ -133,6 +137,40 @@ impl Lists {
         Ok(number)
     }
 
+    /// What is widened is narrowed again, and is as it was.
+    fn hold_widen(&mut self, case: &WidenCase) -> Held {
+        self.wide.lend(case.length);
+        let number = raw::widen(&case.numbers, self.wide.ours(), self.answer.ours());
+        let told = widths::widen(&case.numbers, self.wide.theirs());
+        self.hold_count(number, told)?;
+        alike(self.wide.difference("wide"))?;
+        if number == 0 {
+            self.narrowed.lend(case.numbers.len());
+            let wide = &self.wide.ours()[..case.numbers.len()];
+            held(raw::narrow(wide, self.narrowed.ours(), &mut []), 0)?;
+            self.narrowed.expect(&case.numbers);
+            alike(self.narrowed.difference("narrowed"))?;
+        }
+        Ok(number)
+    }
+
+    /// What is narrowed is widened again, and is as it was.
+    fn hold_narrow(&mut self, case: &NarrowCase) -> Held {
+        self.narrowed.lend(case.length);
+        let number = raw::narrow(&case.numbers, self.narrowed.ours(), self.answer.ours());
+        let told = widths::narrow(&case.numbers, self.narrowed.theirs());
+        self.hold_count(number, told)?;
+        alike(self.narrowed.difference("narrowed"))?;
+        if number == 0 {
+            self.wide.lend(case.numbers.len());
+            let narrowed = &self.narrowed.ours()[..case.numbers.len()];
+            held(raw::widen(narrowed, self.wide.ours(), &mut []), 0)?;
+            self.wide.expect(&case.numbers);
+            alike(self.wide.difference("wide"))?;
+        }
+        Ok(number)
+    }
+
     /// A mesh written and read back by the library: the file is the oracle's, and each triangle's
     /// corners come back bit for bit, in order. A corner of a drawn mesh that is not finite is
     /// refused on both sides.
@@ -167,10 +205,10 @@ impl Lists {
 }
 
 /// x and y of each triangle's corners, in order.
-fn corners<'a>(vertices: &'a [f32], triangles: &'a [u16]) -> impl Iterator<Item = f32> + 'a {
+fn corners<'a>(vertices: &'a [f32], triangles: &'a [u32]) -> impl Iterator<Item = f32> + 'a {
     let named = triangles.chunks_exact(3).flatten();
     named.flat_map(move |&number| {
-        let at = 5 * usize::from(number);
+        let at = 5 * number as usize;
         [vertices[at], vertices[at + 1]]
     })
 }

@@ -28,6 +28,15 @@ impl Element for u16 {
     }
 }
 
+impl Element for u32 {
+    fn mark(place: usize) -> u32 {
+        0xA5A5_A5A5 ^ place as u32
+    }
+    fn same(self, other: u32) -> bool {
+        self == other
+    }
+}
+
 impl Element for usize {
     fn mark(place: usize) -> usize {
         !place

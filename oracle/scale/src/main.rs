@@ -1,7 +1,8 @@
 //! `scale SEED COUNT [KIND]`: COUNT generated cases of each call, or of the one named, answered by
 //! the linked library and by the oracle, every lent list compared whole. `damaged` is the oracle's
 //! list of damaged STL files, whatever the seed, and ends by itself; `back` has meshes written and
-//! read back by the library. Prints how often each number was answered; ends with 1 at the first
+//! read back by the library; `big` has sizes that no line has: paths, texts and lists about the
+//! limits, and is left out where no call is named. Prints how often each number was answered; ends with 1 at the first
 //! difference, printing its case line.
 
 mod call;
@@ -9,7 +10,7 @@ mod list;
 
 use call::Lists;
 use oracle::case::Case;
-use oracle::gen::{case, damaged, sound, Kind, Rng};
+use oracle::gen::{big, case, damaged, sound, Kind, Rng};
 use std::iter::repeat_with;
 use std::process::ExitCode;
 use std::time::Instant;
@@ -19,17 +20,21 @@ enum Of {
     Call(Kind),
     Damaged,
     Back,
+    Big,
 }
 
-const KINDS: [(&str, Of); 8] = [
+const KINDS: [(&str, Of); 11] = [
     ("mesh", Of::Call(Kind::Mesh)),
     ("read", Of::Call(Kind::Read)),
     ("root", Of::Call(Kind::Root)),
     ("normal", Of::Call(Kind::Normal)),
     ("stlwrite", Of::Call(Kind::StlWrite)),
     ("stlread", Of::Call(Kind::StlRead)),
+    ("widen", Of::Call(Kind::Widen)),
+    ("narrow", Of::Call(Kind::Narrow)),
     ("damaged", Of::Damaged),
     ("back", Of::Back),
+    ("big", Of::Big),
 ];
 
 fn main() -> ExitCode {
@@ -55,7 +60,7 @@ type Kinds = Vec<(&'static str, Of)>;
 
 fn arguments(words: &[String]) -> Option<(u64, usize, Kinds)> {
     let (seed, count, named) = match words {
-        [seed, count] => (seed, count, KINDS.to_vec()),
+        [seed, count] => (seed, count, KINDS[..KINDS.len() - 1].to_vec()),
         [seed, count, name] => {
             let kind = KINDS.iter().find(|kind| kind.0 == name)?;
             (seed, count, vec![*kind])
@@ -70,6 +75,7 @@ fn cases(seed: u64, of: Of) -> Box<dyn Iterator<Item = Case>> {
     match of {
         Of::Call(kind) => Box::new(repeat_with(move || case(&mut rng, kind))),
         Of::Damaged => Box::new(damaged().map(Case::StlRead)),
+        Of::Big => Box::new(repeat_with(move || big(&mut rng))),
         Of::Back => Box::new(repeat_with(move || Case::StlWrite(sound(&mut rng)))),
     }
 }
@@ -79,7 +85,7 @@ fn compare(seed: u64, count: usize, name: &str, of: Of) -> bool {
     let start = Instant::now();
     let mut lengths = Rng::new(!seed);
     let mut lists = Lists::default();
-    let mut told = [0u64; 18];
+    let mut told = [0u64; 19];
     let mut done = 0;
     for case in cases(seed, of).take(count) {
         let held = match (of, &case) {

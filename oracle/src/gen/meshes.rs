@@ -10,7 +10,8 @@ use crate::vertices::Mesh;
 
 pub fn mesh(rng: &mut Rng) -> MeshCase {
     let drawn = if rng.one_in(2_000) {
-        long_path(rng)
+        let verbs = 4_096 + rng.below(2);
+        long_path(rng, verbs)
     } else {
         path(rng)
     };
@@ -26,7 +27,8 @@ pub fn mesh(rng: &mut Rng) -> MeshCase {
         60..=69 => spoil_option(rng, &mut case),
         70..=81 => spoil_verbs(rng, &mut case),
         82..=93 => spoil_coordinate(rng, &mut case),
-        94 => many_verbs(rng, &mut case),
+        // Its lines are long.
+        94 if rng.one_in(40) => many_verbs(rng, &mut case),
         _ => spoil_twice(rng, &mut case),
     }
     lend(rng, &mut case);
@@ -131,7 +133,7 @@ fn many_verbs(rng: &mut Rng, case: &mut MeshCase) {
 fn spoil_twice(rng: &mut Rng, case: &mut MeshCase) {
     let faults: [fn(&mut Rng, &mut MeshCase); 4] =
         [spoil_option, spoil_verbs, spoil_coordinate, many_verbs];
-    let kinds: &[usize] = if rng.one_in(8) {
+    let kinds: &[usize] = if rng.one_in(80) {
         &[0, 1, 2, 3]
     } else {
         &[0, 1, 2]

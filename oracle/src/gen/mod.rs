@@ -2,6 +2,7 @@
 //! numbers and correctly rounded f32 operations are used.
 
 mod bad;
+mod big;
 mod joins;
 mod meshes;
 mod paths;
@@ -10,7 +11,9 @@ mod shapes;
 mod small;
 mod stl;
 mod texts;
+mod widths;
 
+pub use big::big;
 pub use rng::Rng;
 pub use stl::{damaged, sound};
 
@@ -27,6 +30,8 @@ pub enum Kind {
     Cap,
     StlWrite,
     StlRead,
+    Widen,
+    Narrow,
     Bad,
     All,
 }
@@ -43,6 +48,8 @@ impl Kind {
             "cap" => Some(Kind::Cap),
             "stlwrite" => Some(Kind::StlWrite),
             "stlread" => Some(Kind::StlRead),
+            "widen" => Some(Kind::Widen),
+            "narrow" => Some(Kind::Narrow),
             "bad" => Some(Kind::Bad),
             "all" => Some(Kind::All),
             _ => None,
@@ -71,6 +78,8 @@ pub fn case(rng: &mut Rng, kind: Kind) -> Case {
         Kind::Cap => Case::Cap(small::cap(rng)),
         Kind::StlWrite => Case::StlWrite(stl::write(rng)),
         Kind::StlRead => Case::StlRead(stl::read(rng)),
+        Kind::Widen => Case::Widen(widths::widen(rng)),
+        Kind::Narrow => Case::Narrow(widths::narrow(rng)),
         Kind::Bad | Kind::All => {
             let kind = rng.pick(&[
                 Kind::Mesh,
@@ -84,6 +93,8 @@ pub fn case(rng: &mut Rng, kind: Kind) -> Case {
                 Kind::Cap,
                 Kind::StlWrite,
                 Kind::StlRead,
+                Kind::Widen,
+                Kind::Narrow,
             ]);
             case(rng, kind)
         }

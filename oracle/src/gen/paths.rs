@@ -4,7 +4,7 @@ use super::rng::{ulps, Rng};
 use super::shapes::{any_coordinate, shape};
 use crate::mesh::{Options, Stroke, LIMITS, MERGES, WIDTHS};
 use crate::normal::compute_normal;
-use crate::path::{BEGIN, END_CLOSED, END_OPEN, LINE, MAX_VERBS};
+use crate::path::{BEGIN, END_CLOSED, END_OPEN, LINE};
 use crate::plane::{point, Point};
 
 #[derive(Clone, Debug, Default)]
@@ -62,10 +62,9 @@ pub fn far_corner(i: usize) -> Point {
     point(c, c)
 }
 
-/// Just as many verbs as are accepted, or one more, in one run or in many.
-pub fn long_path(rng: &mut Rng) -> Drawn {
+/// So many verbs, in one run or in many.
+pub fn long_path(rng: &mut Rng, verbs: usize) -> Drawn {
     let mut drawn = Drawn::new(rng);
-    let verbs = MAX_VERBS + rng.below(2);
     let points = |rng: &mut Rng, n: usize| -> Vec<Point> {
         (0..n)
             .map(|_| point(any_coordinate(rng), any_coordinate(rng)))

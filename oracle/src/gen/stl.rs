@@ -85,7 +85,7 @@ pub fn sound(rng: &mut Rng) -> StlWriteCase {
 }
 
 /// What the mesh call writes of a path.
-fn drawn_mesh(rng: &mut Rng) -> (Vec<f32>, Vec<u16>) {
+fn drawn_mesh(rng: &mut Rng) -> (Vec<f32>, Vec<u32>) {
     let path = path(rng);
     let options = options(rng, &path);
     let path = Path {
@@ -97,15 +97,15 @@ fn drawn_mesh(rng: &mut Rng) -> (Vec<f32>, Vec<u16>) {
 }
 
 /// Any finite vertices, and any three of them to a triangle.
-fn made_mesh(rng: &mut Rng, vertices: usize, triangles: usize) -> (Vec<f32>, Vec<u16>) {
-    let any = |rng: &mut Rng| rng.below(vertices) as u16;
+fn made_mesh(rng: &mut Rng, vertices: usize, triangles: usize) -> (Vec<f32>, Vec<u32>) {
+    let any = |rng: &mut Rng| rng.below(vertices) as u32;
     (
         (0..5 * vertices).map(|_| finite(rng)).collect(),
         (0..3 * triangles).map(|_| any(rng)).collect(),
     )
 }
 
-fn small_mesh(rng: &mut Rng) -> (Vec<f32>, Vec<u16>) {
+fn small_mesh(rng: &mut Rng) -> (Vec<f32>, Vec<u32>) {
     let vertices = 1 + rng.below(9);
     let triangles = count(rng);
     made_mesh(rng, vertices, triangles)
@@ -121,7 +121,8 @@ fn spoil_mesh(rng: &mut Rng, case: &mut StlWriteCase) {
         }
         2 | 3 if !case.triangles.is_empty() => {
             let at = rng.below(case.triangles.len());
-            case.triangles[at] = rng.pick(&[vertices, vertices + 1, 65_535]) as u16;
+            case.triangles[at] =
+                rng.pick(&[vertices, vertices + 1, 65_535, 65_536, u32::MAX as usize]) as u32;
         }
         4 => case.vertices.truncate(rng.below(case.vertices.len() + 1)),
         5 => case.triangles.truncate(rng.below(case.triangles.len() + 1)),

@@ -2,14 +2,20 @@
 
 use super::rng::Rng;
 use crate::case::{ReadCase, MAX_COORDINATE_LIST, MAX_VERB_LIST};
-use crate::reader::{measure, MAX_TEXT};
+use crate::reader::measure;
 
 const WHITE: [u8; 5] = [b' ', b'\t', b'\n', 0x0C, b'\r'];
 
 pub fn read(rng: &mut Rng) -> ReadCase {
     let mut text = match rng.below(250) {
-        0 => many_verbs(rng),
-        1 => full_text(rng),
+        0 => {
+            let verbs = MAX_VERB_LIST - 5 + rng.below(10);
+            many_verbs(rng, verbs)
+        }
+        1 => {
+            let length = 16_384 + rng.below(2);
+            full_text(rng, length)
+        }
         _ => valid(rng),
     };
     if rng.one_in(2) {
@@ -181,10 +187,9 @@ fn damage(rng: &mut Rng, text: &mut Vec<u8>) {
     }
 }
 
-/// About as many verbs as are accepted, which short runs or implied lines can bring.
-fn many_verbs(rng: &mut Rng) -> Vec<u8> {
+/// So many verbs, which short runs or implied lines can bring.
+pub fn many_verbs(rng: &mut Rng, verbs: usize) -> Vec<u8> {
     let mut text = b"M0 0".to_vec();
-    let verbs = 4090 + rng.below(10);
     if rng.one_in(2) {
         // Begin and lines, then the end: two verbs are no line.
         for _ in 2..verbs {
@@ -202,10 +207,9 @@ fn many_verbs(rng: &mut Rng) -> Vec<u8> {
     text
 }
 
-/// A text of just as many bytes as are accepted, or one more.
-fn full_text(rng: &mut Rng) -> Vec<u8> {
+/// A text of so many bytes.
+pub fn full_text(rng: &mut Rng, length: usize) -> Vec<u8> {
     let mut text = valid(rng);
-    let length = MAX_TEXT + rng.below(2);
     let tail: &[u8] = rng.pick(&[&b" "[..], b"Z", b"z\n", b"M5 5L-6 -6", b"x"]);
     match rng.below(3) {
         0 => text.resize(length, b' '),

@@ -32,7 +32,7 @@ pub fn options(width: f32, limit: f32, join: u8, cap: u8) -> Options {
 pub struct Stroked {
     pub outcome: Outcome,
     pub vertices: Vec<f32>,
-    pub triangles: Vec<u16>,
+    pub triangles: Vec<u32>,
 }
 
 impl Stroked {
@@ -114,8 +114,8 @@ pub fn answered(line: &str) -> String {
 
 /// What the reader says of a text, with plenty of room: number, place, verbs, coordinates.
 pub fn read(text: &[u8]) -> (u32, usize, Vec<u8>, Vec<f32>) {
-    let mut verbs = vec![99; 5000];
-    let mut coordinates = vec![-7.0; 10_000];
+    let mut verbs = vec![99; 70_000];
+    let mut coordinates = vec![-7.0; 140_000];
     let outcome = oracle::reader::read(text, &mut verbs, &mut coordinates);
     let (v, c) = outcome.counts;
     assert!(verbs[v..].iter().all(|&v| v == 99) && coordinates[c..].iter().all(|&c| c == -7.0));

@@ -45,12 +45,12 @@ fn counts(run: &Run, stroke: &Stroke) -> (usize, usize) {
 
 /// Each triangle has three different vertices of its run, every vertex is named, and each
 /// triangle but the first shares exactly two vertices with the one before.
-fn check_ladder(triangles: &[[u16; 3]], first: usize, vertices: usize) {
+fn check_ladder(triangles: &[[u32; 3]], first: usize, vertices: usize) {
     let mut named = vec![false; vertices];
     for &[a, b, c] in triangles {
         assert!(a != b && b != c && a != c);
         for corner in [a, b, c] {
-            named[usize::from(corner) - first] = true;
+            named[corner as usize - first] = true;
         }
     }
     assert!(named.into_iter().all(|named| named));
@@ -99,7 +99,7 @@ fn meshes_are_ladders() {
 /// The call on lists of those lengths; whatever it leaves alone must be as it was filled.
 fn call(case: &MeshCase, vertex_len: usize, triangle_len: usize) -> Outcome {
     let mut vertices = filled_floats(vertex_len);
-    let mut triangles: Vec<u16> = filled_numbers(triangle_len);
+    let mut triangles: Vec<u32> = filled_numbers(triangle_len);
     let outcome = mesh::<Judge>(path(case), case.options, &mut vertices, &mut triangles);
     let (v, t) = match outcome.number {
         0 => (5 * outcome.counts.0, 3 * outcome.counts.1),
@@ -142,6 +142,8 @@ fn every_refusal_is_generated() {
     // 5 has never been seen: no two kept points of an edge have offset points so near.
     assert_eq!(seen[5], 0);
     for number in [0, 1, 2, 3, 4, 6, 7] {
-        assert!(seen[number] > 50, "{}: {}", number, seen[number]);
+        // Cases of refusal 2 are long, and rare.
+        let least = if number == 2 { 3 } else { 50 };
+        assert!(seen[number] > least, "{}: {}", number, seen[number]);
     }
 }

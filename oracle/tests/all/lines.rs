@@ -91,7 +91,7 @@ fn answers_of_each_kind() {
 
 #[test]
 fn lent_lists_as_they_are_filled() {
-    let numbers: Vec<u16> = filled_numbers(40);
+    let numbers: Vec<u32> = filled_numbers(40);
     assert_eq!((numbers[0], numbers[35], numbers[36]), (3, 248, 4));
     let floats = filled_floats(81_920);
     assert_eq!((floats[0], floats[81_919]), (0.25, 81_919.25));

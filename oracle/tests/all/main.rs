@@ -15,3 +15,4 @@ mod refusals;
 mod root;
 mod rules;
 mod stl;
+mod widths;

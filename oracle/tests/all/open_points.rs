@@ -200,9 +200,9 @@ fn form_is_the_grammar_alone() {
     assert_eq!(read(b"M99999 x").1, 7);
     assert_eq!(read(b"M99999 0").0, 10);
     assert_eq!(read(b"M99999 0").1, 1);
-    let mut begun = vec![b' '; 16_384];
-    begun[16_383] = b'M';
-    assert_eq!((read(&begun).0, read(&begun).1), (9, 16_384));
+    let mut begun = vec![b' '; 1_048_576];
+    begun[1_048_575] = b'M';
+    assert_eq!((read(&begun).0, read(&begun).1), (9, 1_048_576));
     begun.push(b'x');
     assert_eq!((read(&begun).0, read(&begun).1), (8, 0));
 }

@@ -143,9 +143,9 @@ fn room_for_verbs_and_coordinates() {
 }
 
 #[test]
-fn over_4096_verbs() {
+fn over_65536_verbs() {
     // A begin, its lines, its end.
     let text = |verbs: usize| [b"M0 0".to_vec(), b"+1+1".repeat(verbs - 2)].concat();
-    assert_eq!(read(&text(4096)).2.len(), 4096);
-    assert_eq!((read(&text(4097)).0, read(&text(4097)).1), (11, 0));
+    assert_eq!(read(&text(65_536)).2.len(), 65_536);
+    assert_eq!((read(&text(65_537)).0, read(&text(65_537)).1), (11, 0));
 }

@@ -73,17 +73,17 @@ fn options_at_and_beyond_their_limits() {
 }
 
 #[test]
-fn verbs_over_4096() {
+fn verbs_over_65536() {
     let with = |verbs: &[u8], coordinates: &[f32]| {
         stroke_verbs(GOOD, verbs, coordinates, PLENTY).refusal()
     };
-    let points = vec![5.0; 2 * 2048];
-    assert_eq!(with(&[0, 2].repeat(2048), &points), (0, 0));
+    let points = vec![5.0; 2 * 32_768];
+    assert_eq!(with(&[0, 2].repeat(32_768), &points), (0, 0));
     // More verbs are refused before any of them is looked at.
-    assert_eq!(with(&[9; 4097], &[]), (2, 0));
-    assert_eq!(with(&[9; 4096], &[]), (3, 0));
-    let ends_inside = [[0].as_slice(), &[1; 4095]].concat();
-    assert_eq!(with(&ends_inside, &vec![5.0; 2 * 4096]), (3, 4096));
+    assert_eq!(with(&[9; 65_537], &[]), (2, 0));
+    assert_eq!(with(&[9; 65_536], &[]), (3, 0));
+    let ends_inside = [[0].as_slice(), &[1; 65_535]].concat();
+    assert_eq!(with(&ends_inside, &vec![5.0; 2 * 65_536]), (3, 65_536));
 }
 
 #[test]
@@ -114,8 +114,8 @@ fn lower_numbers_come_first() {
     let with = |options, verbs: &[u8], coordinates: &[f32], lent| {
         stroke_verbs(options, verbs, coordinates, lent).number()
     };
-    assert_eq!(with(bad_option, &[9; 4097], &[], (0, 0)), 1);
-    assert_eq!(with(GOOD, &[9; 4097], &[f32::NAN], (0, 0)), 2);
+    assert_eq!(with(bad_option, &[9; 65_537], &[], (0, 0)), 1);
+    assert_eq!(with(GOOD, &[9; 65_537], &[f32::NAN], (0, 0)), 2);
     assert_eq!(with(GOOD, &[0, 1], &[f32::NAN; 4], (0, 0)), 3);
     assert_eq!(
         with(GOOD, &[0, 1, 2], &[1.0, 2.0, 3.0, f32::NAN], (0, 0)),

@@ -33,7 +33,7 @@ fn read(bytes: &[u8], room: usize) -> Result<usize, Refusal> {
     answer
 }
 
-fn write(vertices: &[f32], triangles: &[u16], room: usize) -> Result<usize, Refusal> {
+fn write(vertices: &[f32], triangles: &[u32], room: usize) -> Result<usize, Refusal> {
     let mut bytes = vec![7; room];
     let answer = stl::write(vertices, triangles, &mut bytes);
     if answer.is_err() {
@@ -142,7 +142,7 @@ fn round_trips() {
             let named = case.triangles[..(count - FRONT) / 50 * 3].iter();
             let due: Vec<u32> = named
                 .flat_map(|&n| {
-                    let at = 5 * usize::from(n);
+                    let at = 5 * n as usize;
                     [case.vertices[at], case.vertices[at + 1]]
                 })
                 .map(f32::to_bits)

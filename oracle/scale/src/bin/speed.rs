@@ -55,11 +55,11 @@ fn main() {
         .and_then(|word| word.parse().ok())
         .unwrap_or(1000);
     let mut vertices = vec![0.0f32; 20 * points];
-    let mut triangles = vec![0u16; 12 * points];
+    let mut triangles = vec![0u32; 12 * points];
     for kind in ["gentle", "sharp", "right"] {
         let Input { verbs, coords } = input(kind, points);
         let mut answer = [0usize; 3];
-        let mut ours = |v: &mut [f32], t: &mut [u16]| {
+        let mut ours = |v: &mut [f32], t: &mut [u32]| {
             assert_eq!(
                 raw::tessellate(&verbs, &coords, 2.0, 4.0, 0, 0, MERGE, v, t, &mut answer),
                 0
