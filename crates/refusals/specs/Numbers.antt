@@ -9,7 +9,7 @@ pub data Meaning : Type 0 where
   accepted : Meaning
   -- "an option outside its range, NaN included"
   outOfRange : Meaning
-  -- "more than 4,096 verbs"
+  -- "more than 4,096 verbs", since W-205 65,536
   tooManyVerbs : Meaning
   -- "unknown verb, begin inside a run, line or end outside, list ends inside; or coordinates not exactly two per begin or line"
   misplacedVerb : Meaning
@@ -21,13 +21,13 @@ pub data Meaning : Type 0 where
   vertexRoom : Meaning
   -- "too few triangle places"
   triangleRoom : Meaning
-  -- "path text over 16,384 bytes"
+  -- "path text over 16,384 bytes", since W-205 1 MiB
   longText : Meaning
   -- "text not in the form below"
   malformedText : Meaning
   -- "a number beyond 32,768 in size"
   largeNumber : Meaning
-  -- "reader's lent verb or coordinate list too short, or over 4,096 verbs"
+  -- "reader's lent verb or coordinate list too short, or over 4,096 verbs", since W-205 65,536
   readerRoom : Meaning
   -- "window: `get` at or past the count; `replace_last` when empty"
   windowRefused : Meaning
@@ -39,8 +39,10 @@ pub data Meaning : Type 0 where
   fileLength : Meaning
   -- "a corner that is not finite, a z that isn't zero or, in writing, a triangle number that has no vertex"
   badCorner : Meaning
-  -- "too little room to read"
-  cornerRoom : Meaning
+  -- "too little room to read"; W-205: "also when a list to widen or narrow into is too short"
+  listRoom : Meaning
+  -- W-205: "a number too large to narrow"
+  wideNumber : Meaning
 
 abbrev pub numberOf : Meaning → ℕ
 numberOf accepted = 0
@@ -60,7 +62,8 @@ numberOf noRoot = 13
 numberOf fileRoom = 14
 numberOf fileLength = 15
 numberOf badCorner = 16
-numberOf cornerRoom = 17
+numberOf listRoom = 17
+numberOf wideNumber = 18
 
 -- a row of the table, with its place
 abbrev pub verdict : Meaning → ℕ → Verdict

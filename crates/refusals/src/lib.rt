@@ -36,7 +36,9 @@ pub const FILE_LENGTH: u32 = 15;
 
 pub const BAD_CORNER: u32 = 16;
 
-pub const CORNER_ROOM: u32 = 17;
+pub const LIST_ROOM: u32 = 17;
+
+pub const WIDE_NUMBER: u32 = 18;
 
 // Refusals 1 to 4: what is wrong with the options or the path of a call.
 pub enum Refusal {

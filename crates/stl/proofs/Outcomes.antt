@@ -7,7 +7,7 @@ use borrow.Author.Tests.{ltb-false, lt-ltb, le-ltb, eq-eqb, ne-eqb}
 use lib.Dec.{T, ltb}
 use lib.Ieee.{Float}
 use lib.ListN.{length}
-use Rattle.refusals.specs.Numbers.{numberOf, fileRoom, fileLength, badCorner, cornerRoom}
+use Rattle.refusals.specs.Numbers.{numberOf, fileRoom, fileLength, badCorner, listRoom}
 use Rattle.lists.specs.Over.{over, flat}
 use Rattle.stl.specs.Answer.{withCount}
 use Rattle.stl.specs.Each.{each, firstBad}
@@ -54,7 +54,7 @@ module _ (b : List ℕ) (c : List Float) where
       unfolding readOf
       read-bad h = rw (le-ltb (length b) 84 g, ← w, eq-eqb (length b) (sizeOf n) l, ← e, lt-ltb k n h)
 
-      pub read-full : n ≤ k → length c < 6 * n → unread c (numberOf cornerRoom) 0 ≡ readOf b c
+      pub read-full : n ≤ k → length c < 6 * n → unread c (numberOf listRoom) 0 ≡ readOf b c
       unfolding readOf
       read-full h m = rw (le-ltb (length b) 84 g, ← w, eq-eqb (length b) (sizeOf n) l, ← e, le-ltb k n h, lt-ltb (length c) (6 * n) m)
 

@@ -5,7 +5,7 @@ use mathlib.Core.List.{List}
 use lib.Dec.{T}
 use lib.Ieee.{Float, nan, binary32, fits}
 use lib.ListN.{length, getD, take}
-use Rattle.refusals.specs.Numbers.{numberOf, cornerRoom}
+use Rattle.refusals.specs.Numbers.{numberOf, listRoom}
 use Rattle.lists.specs.Over.{over, flat}
 use Rattle.stl.specs.Answer.{withCount}
 use Rattle.stl.specs.File.{sizeOf, fileBytes, facetsIn, cornersOf}
@@ -25,7 +25,7 @@ pub record ReadsBack (fs : List Facet) (file : List ℕ) : Type 0 where
   pub size : length file ≡ sizeOf (length fs)
   pub facets : facetsIn file ≡ fs
   pub enough : (c : List Float) → 6 * length fs ≤ length c → readOf file c ≡ record { answer = withCount (6 * length fs); corners = over (flat cornersOf fs) c }
-  pub few : (c : List Float) → length c < 6 * length fs → readOf file c ≡ unread c (numberOf cornerRoom) 0
+  pub few : (c : List Float) → length c < 6 * length fs → readOf file c ≡ unread c (numberOf listRoom) 0
 
 -- the bytes that writing counts
 abbrev pub written : List Float → List ℕ → List ℕ → List ℕ

@@ -5,7 +5,7 @@ use mathlib.Core.List.{List}
 use lib.Dec.{ltb, eqb}
 use lib.Ieee.{Float}
 use lib.ListN.{length}
-use Rattle.refusals.specs.Numbers.{numberOf, fileLength, badCorner, cornerRoom}
+use Rattle.refusals.specs.Numbers.{numberOf, fileLength, badCorner, listRoom}
 use Rattle.lists.specs.Over.{over, flat}
 use Rattle.stl.specs.Answer.{withCount, withPlace}
 use Rattle.stl.specs.Corner.{finiteCorner, isZero}
@@ -43,5 +43,5 @@ readOf b c =
     let n = countIn b in
     cond (wrongLength b) (unread c (numberOf fileLength) 0)
     (cond (ltb (firstDamaged b) n) (unread c (numberOf badCorner) (firstDamaged b))
-    (cond (ltb (length c) (6 * n)) (unread c (numberOf cornerRoom) 0)
+    (cond (ltb (length c) (6 * n)) (unread c (numberOf listRoom) 0)
     (record { answer = withCount (6 * n); corners = over (flat cornersOf (facetsIn b)) c })))

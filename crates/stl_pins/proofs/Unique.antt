@@ -30,14 +30,14 @@ corners : StlAnswer → Corners
 corners a =
     cond (eqb (a .number) (numberOf accepted)) (read.Floats (a .count))
     (cond (eqb (a .number) (numberOf fileLength)) read.FileLength
-    (cond (eqb (a .number) (numberOf badCorner)) (read.Corner (a .place)) read.CornerRoom))
+    (cond (eqb (a .number) (numberOf badCorner)) (read.Corner (a .place)) read.ListRoom))
 
 corners-is : (r : Corners) → corners (cornersAnswerOf r) ≡ r
 unfolding corners
 corners-is (read.Floats n) = refl
 corners-is read.FileLength = refl
 corners-is (read.Corner k) = refl
-corners-is read.CornerRoom = refl
+corners-is read.ListRoom = refl
 
 -- ---- stl_write and stl_read
 pub write-one : (v : List Float) (t b : List ℕ) (r s : Written) (b1 b2 : List ℕ)

@@ -1,7 +1,7 @@
 // What reading answers.
 use refusals::BAD_CORNER;
-use refusals::CORNER_ROOM;
 use refusals::FILE_LENGTH;
+use refusals::LIST_ROOM;
 use stl::answer::StlAnswer;
 use stl::answer::with_count;
 use stl::answer::with_place;
@@ -17,7 +17,7 @@ pub enum Corners {
     // Refusal 16, at the first triangle with a corner that is not finite or whose z is not zero.
     Corner(usize),
     // Refusal 17: too little room for the corners.
-    CornerRoom,
+    ListRoom,
 }
 
 // The number, the place and the count that an answer stands for.
@@ -28,6 +28,6 @@ pub fn corners_answer_of(c: Corners) -> StlAnswer
         Corners::Floats(count) => with_count(count),
         Corners::FileLength => with_place(FILE_LENGTH, 0),
         Corners::Corner(place) => with_place(BAD_CORNER, place),
-        Corners::CornerRoom => with_place(CORNER_ROOM, 0),
+        Corners::ListRoom => with_place(LIST_ROOM, 0),
     }
 }

@@ -46,7 +46,7 @@ pub fn stl_read(bytes: &[u8], corners: &mut [f32]) -> Corners
         return Corners::Corner(k);
     }
     if corners.len() < floats {
-        return Corners::CornerRoom;
+        return Corners::ListRoom;
     }
     put_all(corners, bytes, n);
     Corners::Floats(floats)
