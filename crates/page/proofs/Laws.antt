@@ -1,12 +1,14 @@
 -- What is printed, by an answer's number: the refusal where it is not 0, else what the next call makes of it. Assumes nothing.
-use Prim.Native.Nat.{ℕ, _*_, _≤_}
-use mathlib.Core.Path.{_≡_, refl}
+use Prim.Native.Nat.{ℕ, _*_, _≤_, _<_}
+use mathlib.Core.Path.{_≡_}
 use mathlib.Core.Bool.{true, false}
 use mathlib.Core.List.{List}
+use native.Mathlib.Nat.{lt-of-lt-of-le}
 use native.Mathlib.Omega.{arith}
-use lib.Dec.{eqb}
+use lib.Dec.{eqb, lit≤}
 use lib.Ieee.{Float, binary32, ofBits}
-use lib.ListN.{take, length-replicate}
+use lib.ListN.{length, take, length-replicate}
+use Rattle.refusals.specs.Numbers.{numberOf, longText}
 use Rattle.lines.specs.Placed.{Puts}
 use Rattle.reader.specs.Outcome as reader
 use Rattle.reader.specs.Reads.{Reads}
@@ -14,8 +16,9 @@ use Rattle.reader.specs.declared.answer.ReadAnswer.{ReadAnswer}
 use Rattle.pieces.specs.Piece.{lent}
 use Rattle.mesh.specs.Mesh as mesh
 use Rattle.mesh.specs.declared.answer.MeshAnswer.{MeshAnswer}
-use Rattle.page.specs.Page.{optionsOf, verbRoom, coordRoom, vertexRoom, triangleRoom, meshPage, refusedPage, meshPageOf, readPageOf, PutsPage}
+use Rattle.page.specs.Page.{optionsOf, textRoom, verbRoom, coordRoom, vertexRoom, triangleRoom, AreShort, meshPage, refusedPage, meshPageOf, readPageOf, long-text, read-text, PutsPage}
 use Rattle.page.proofs.Rooms.{mesh-roomy, read-roomy}
+use Rattle.page.proofs.Named.{below-zeros, below-at, mesh-named}
 
 -- ---- what is counted fits into the program's rooms
 pub mesh-within : (vs : List ℕ) (cs : List Float) {o : mesh.Outcome} → o ≡ mesh.outcomeOf vs cs optionsOf (lent vertexRoom triangleRoom)
@@ -30,6 +33,13 @@ read-within {s} {o} h {a} e n =
     let r = (rw (← e) at (read-roomy s verbRoom coordRoom o h)) n in
     (omega (arith, r .0, length-replicate {A = ℕ} 1024 0), omega (arith, r .1, length-replicate 2048 (ofBits binary32 0)))
 
+pub mesh-short : (vs : List ℕ) (cs : List Float) {o : mesh.Outcome} → o ≡ mesh.outcomeOf vs cs optionsOf (lent vertexRoom triangleRoom)
+    → {a : MeshAnswer} → a ≡ o .answer → a .vertices ≤ 1024 → AreShort (o .lists .triangles)
+mesh-short vs cs {o} h {a} e n i =
+    let few : o .answer .vertices ≤ 1024 = rw (← e) n in
+    let named = rw (← h) at (mesh-named 1024 (lent vertexRoom triangleRoom) (below-zeros 1023 (3 * 1536)) vs cs optionsOf) in
+    lt-of-lt-of-le (below-at 1023 (o .lists .triangles) (named few) i) (lit≤ tt)
+
 -- what is put, and where
 module _ {xs ys : List ℕ} {k i : ℕ} where
   -- ---- a path
@@ -43,9 +53,12 @@ module _ {xs ys : List ℕ} {k i : ℕ} where
     mesh-drawn n q = rw (← h, ← e, n) q
 
 -- ---- a text
-module _ {s xs ys : List ℕ} {i : ℕ} {o : reader.Outcome} (reads : Reads s verbRoom coordRoom o) where
+pub long-refused : {s xs ys : List ℕ} {i : ℕ} → textRoom < length s → Puts (refusedPage (numberOf longText) 0) 0 xs i ys → PutsPage s xs i ys
+long-refused h p = record { page = refusedPage (numberOf longText) 0; prints = long-text h; long = omega (arith, p .behind); list = p .list }
+
+module _ {s xs ys : List ℕ} {i : ℕ} {o : reader.Outcome} (few : length s ≤ textRoom) (reads : Reads s verbRoom coordRoom o) where
   page-of : Puts (readPageOf o) 0 xs i ys → PutsPage s xs i ys
-  page-of p = record { page = readPageOf o; prints = record { outcome = o; reads = reads; printed = refl }; long = omega (arith, p .behind); list = p .list }
+  page-of p = record { page = readPageOf o; prints = read-text o few reads; long = omega (arith, p .behind); list = p .list }
 
   module _ {a : ReadAnswer} (e : a ≡ o .answer) where
     pub read-refused : eqb (a .number) 0 ≡ false → Puts (refusedPage (a .number) (a .place)) 0 xs i ys → PutsPage s xs i ys

@@ -1,6 +1,6 @@
 -- What document 01's program prints of a path text: its page, byte by byte. Assumes nothing.
 use Prim.Native.Char.{code}
-use Prim.Native.Nat.{ℕ, zero, suc, _+_, _*_}
+use Prim.Native.Nat.{ℕ, zero, suc, _+_, _*_, _≤_, _<_}
 use Prim.Native.String.{String, [] as none, _∷_ as _then_}
 use mathlib.Core.Path.{_≡_}
 use mathlib.Core.Bool.{cond}
@@ -8,7 +8,7 @@ use mathlib.Core.List.{List, [], _∷_, _++_}
 use lib.Dec.{eqb}
 use lib.Ieee.{Float, nan, binary32, ofBits}
 use lib.ListN.{length, take, getD, replicate}
-use Rattle.refusals.specs.Numbers.{numberOf, accepted}
+use Rattle.refusals.specs.Numbers.{numberOf, accepted, longText}
 use Rattle.lists.specs.Over.{over}
 use Rattle.lines.specs.Digits.{decimalOf}
 use Rattle.lines.specs.Floats.{floatHex}
@@ -21,6 +21,10 @@ use Rattle.mesh.specs.Mesh as mesh
 -- "width 2, limit 4, Miter, Butt"; its merge range is document 01's 1/128
 abbrev pub optionsOf : Options
 optionsOf = record { width = ofBits binary32 0x40000000; «miter_limit» = ofBits binary32 0x40800000; «line_join» = 0; cap = 0; «merge_range» = ofBits binary32 0x3c000000 }
+
+-- "the program keeps its buffers and gives 8 above 16,384 bytes" (W-205)
+abbrev pub textRoom : ℕ
+textRoom = 16384
 
 -- "room for 1,024 verbs, 2,048 coordinates, 1,024 vertices and 1,536 triangles": five floats to a vertex, three numbers to a triangle, all zero
 abbrev pub verbRoom : List ℕ
@@ -48,6 +52,10 @@ bytes (c then s) = code c ∷ bytes s
 -- "x and y bits in uppercase hex", of vertex i: the first two of its five floats
 abbrev pub vertexLine : List Float → ℕ → List ℕ
 vertexLine vs i = line (floatHex (getD vs (5 * i) nan)) (floatHex (getD vs (5 * i + 1) nan) ∷ [])
+
+-- five digits hold each number of a triangle list: the program's have fewer vertices
+abbrev pub AreShort : List ℕ → Type 0
+AreShort ts = (i : ℕ) → getD ts i 0 < 65536
 
 -- the three numbers of triangle i
 abbrev pub triangleLine : List ℕ → ℕ → List ℕ
@@ -81,10 +89,9 @@ readPageOf o =
     (refusedPage (a .number) (a .place))
 
 -- The page of the bytes s. The reader allows one outcome, so there is one page: `one-page` of proofs/Unique.antt.
-pub record Prints (s page : List ℕ) : Type 0 where
-  pub outcome : reader.Outcome
-  pub reads : Reads s verbRoom coordRoom outcome
-  pub printed : page ≡ readPageOf outcome
+pub data Prints (s : List ℕ) : List ℕ → Type 0 where
+  long-text : textRoom < length s → Prints s (refusedPage (numberOf longText) 0)
+  read-text : (o : reader.Outcome) → length s ≤ textRoom → Reads s verbRoom coordRoom o → Prints s (readPageOf o)
 
 -- the page of s is put over the start of a list, and n is its length
 pub record PutsPage (s before : List ℕ) (n : ℕ) (after : List ℕ) : Type 0 where

@@ -9,6 +9,7 @@ use mesh::tessellate;
 use options::Options;
 use reader::answer::read_answer_of;
 use reader::read;
+use refusals::LONG_TEXT;
 ghost use mathlib.Core.Path.{_≡_};
 ghost use Prim.Native.Nat.{_≤_};
 ghost use Rattle.lines.specs.Placed.{Puts};
@@ -20,6 +21,9 @@ ghost use Rattle.page.specs.Page.{optionsOf, vertexRoom, triangleRoom, m
 pub const PAGE_ROOM: usize = 65536;
 
 pub type Page = [u8; PAGE_ROOM];
+
+// The longest text that the program takes. The reader takes longer ones.
+pub const TEXT_ROOM: usize = 16384;
 
 const VERB_ROOM: usize = 1024;
 
@@ -36,6 +40,9 @@ pub fn put_page(text: &[u8], out: &mut Page) -> usize
     ensures { λ r. ⌜ PutsPage (now (text .entry)) (now (out .entry)) r (now (out .exit)) ⌝ }
     ensures { λ r. ⌜ r ≤ 65536 ⌝ }
 {
+    if TEXT_ROOM < text.len() {
+        return put_refused(out, LONG_TEXT, 0);
+    }
     let mut verbs = [0u8; VERB_ROOM];
     let mut coords = [0.0f32; COORD_ROOM];
     let a = read_answer_of(read(text, &mut verbs, &mut coords));
@@ -53,7 +60,7 @@ fn put_stroked(verbs: &[u8], coords: &[f32], out: &mut Page) -> usize
     ensures { λ r. ⌜ r ≤ 65536 ⌝ }
 {
     let mut vertices = [0.0f32; VERTEX_ROOM];
-    let mut triangles = [0u16; TRIANGLE_ROOM];
+    let mut triangles = [0u32; TRIANGLE_ROOM];
     let a = mesh_answer_of(tessellate(verbs, coords, options(), &mut vertices, &mut triangles));
     if a.number != 0 {
         return put_refused(out, a.number, a.place);

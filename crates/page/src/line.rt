@@ -5,7 +5,7 @@ use lines::at::decimal_at;
 use lines::at::float_at;
 use lines::at::text_at;
 ghost use mathlib.Core.List.{[], _∷_};
-ghost use Prim.Native.Nat.{_+_, _≤_};
+ghost use Prim.Native.Nat.{_+_, _≤_, _<_};
 ghost use Rattle.lines.specs.Digits.{decimalOf};
 ghost use Rattle.lines.specs.Floats.{floatHex};
 ghost use Rattle.lines.specs.Placed.{Puts};
@@ -46,8 +46,9 @@ pub(crate) fn put_vertex(out: &mut Page, at: usize, x: f32, y: f32) -> usize
     byte_at(out, with_y, b'\n')
 }
 
-pub(crate) fn put_triangle(out: &mut Page, at: usize, a: u16, b: u16, c: u16) -> usize
+pub(crate) fn put_triangle(out: &mut Page, at: usize, a: u32, b: u32, c: u32) -> usize
     requires { ⌜ at ≤ 65472 ⌝ }
+    requires { ⌜ (a < 65536) × (b < 65536) × (c < 65536) ⌝ }
     ensures { λ r. ⌜ Puts (line (decimalOf a) (decimalOf b ∷ decimalOf c ∷ [])) at (now (out .entry)) r (now (out .exit)) ⌝ }
     ensures { λ r. ⌜ r ≤ at + 18 ⌝ }
 {

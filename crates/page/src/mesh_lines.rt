@@ -6,17 +6,18 @@ use crate::line::put_vertex;
 ghost use Prim.Native.Nat.{_+_, _*_, _≤_};
 ghost use lib.ListN.{length};
 ghost use Rattle.lines.specs.Placed.{Puts};
-ghost use Rattle.page.specs.Page.{vertexLine, triangleLine, linesTo, meshPage};
+ghost use Rattle.page.specs.Page.{AreShort, vertexLine, triangleLine, linesTo, meshPage};
 
 pub(crate) fn put_mesh(
     out: &mut Page,
     vertices: &[f32],
     n: usize,
-    triangles: &[u16],
+    triangles: &[u32],
     m: usize,
 ) -> usize
     requires { ⌜ (n ≤ 1024) × (5 * n ≤ length (now vertices)) ⌝ }
     requires { ⌜ (m ≤ 1536) × (3 * m ≤ length (now triangles)) ⌝ }
+    requires { ⌜ AreShort (now triangles) ⌝ }
     ensures { λ r. ⌜ Puts (meshPage n m (now (vertices .entry)) (now (triangles .entry))) 0 (now (out .entry)) r (now (out .exit)) ⌝ }
     ensures { λ r. ⌜ r ≤ 65536 ⌝ }
 {
@@ -42,9 +43,10 @@ fn put_vertices(out: &mut Page, at: usize, values: &[f32], n: usize) -> usize
     next
 }
 
-fn put_triangles(out: &mut Page, at: usize, numbers: &[u16], n: usize) -> usize
+fn put_triangles(out: &mut Page, at: usize, numbers: &[u32], n: usize) -> usize
     requires { ⌜ at + 18 * n ≤ 65472 ⌝ }
     requires { ⌜ 3 * n ≤ length (now numbers) ⌝ }
+    requires { ⌜ AreShort (now numbers) ⌝ }
     ensures { λ r. ⌜ Puts (linesTo (triangleLine (now (numbers .entry))) n) at (now (out .entry)) r (now (out .exit)) ⌝ }
     ensures { λ r. ⌜ r ≤ at + 18 * n ⌝ }
 {

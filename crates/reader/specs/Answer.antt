@@ -11,9 +11,9 @@ use Rattle.reader.specs.declared.counts.Counts.{Counts}
 use Rattle.reader.specs.declared.counts.Found.{Found}
 use Rattle.reader.specs.declared.counts.Found.the-variants.{Nowhere, At}
 
--- "path text over 16,384 bytes"
+-- "The reader's text limit becomes 1 MiB" (W-205)
 abbrev pub textLimit : ℕ
-textLimit = 16384
+textLimit = 1048576
 
 -- "0 .. carries both counts (verbs and coordinates in the reader); the others carry zero."
 abbrev pub withCounts : ℕ → ℕ → ReadAnswer
@@ -34,7 +34,7 @@ readAnswerOf NoRoom = withPlace (numberOf readerRoom) 0
 abbrev pub isPath : ReadAnswer → Bool
 isPath a = eqb (a .number) (numberOf accepted)
 
--- "reader's lent verb or coordinate list too short, or over 4,096 verbs"
+-- "reader's lent verb or coordinate list too short, or over 4,096 verbs", since W-205 65,536
 abbrev pub isCrowded : ℕ → ℕ → ℕ → ℕ → Bool
 isCrowded verbs coords verbRoom coordRoom = ltb verbRoom verbs || ltb coordRoom coords || ltb verbLimit verbs
 

@@ -25,7 +25,7 @@ coordsIn t = coordsOf (eventsOf (length (text t)) t)
 abbrev pub largeIn : Text → Found
 largeIn t = firstLarge (eventsOf (length (text t)) t)
 
--- "reader's lent verb or coordinate list too short, or over 4,096 verbs"
+-- "reader's lent verb or coordinate list too short, or over 4,096 verbs", since W-205 65,536
 abbrev pub crowded : List ℕ → List Float → Text → Bool
 crowded v c t = isCrowded (length (verbsIn t)) (length (coordsIn t)) (length v) (length c)
 

@@ -17,7 +17,7 @@ ghost use Rattle.reader.specs.Read.{inForm, formedOf, scannedOf};
 ghost use Rattle.reader.specs.Reads.{Reads};
 
 // No path text has more bytes than this (refusal 8).
-pub const TEXT_LIMIT: usize = 16384;
+pub const TEXT_LIMIT: usize = 1048576;
 
 // A text of the form is judged by its counts, and written where nothing is refused.
 fn read_formed(text: &[u8], verbs: &mut [u8], coords: &mut [f32], counts: Counts) -> Reading

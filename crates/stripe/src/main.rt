@@ -4,14 +4,15 @@ mod input;
 use crate::input::read_text;
 use libc::STDOUT_FILENO;
 use page::PAGE_ROOM;
+use page::TEXT_ROOM;
 use page::put_page;
 
 // One byte more than a text may have: what comes after it changes nothing.
-const TEXT_ROOM: usize = 16385;
+const INPUT_ROOM: usize = TEXT_ROOM + 1;
 
 // Where a read failed nothing is printed: it would be the page of another text.
 fn main() {
-    let mut text = [0u8; TEXT_ROOM];
+    let mut text = [0u8; INPUT_ROOM];
     let input = read_text(&mut text);
     let n = input.count;
     if input.whole {

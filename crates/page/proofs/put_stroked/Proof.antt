@@ -3,7 +3,7 @@ use borrow.Author.Needs.{needs}
 use borrow.Author.Tests.{eq-eqb, ne-eqb}
 use mathlib.Core.Path.{refl}
 use native.Mathlib.Omega.{arith}
-use Rattle.page.proofs.Laws.{mesh-within, mesh-refused, mesh-drawn}
+use Rattle.page.proofs.Laws.{mesh-within, mesh-short, mesh-refused, mesh-drawn}
 use Rattle.page.proofs.put_stroked.Statement.{statement}
 use Rattle.page.proofs.put_stroked.Tie as tie
 
@@ -45,7 +45,7 @@ put-mesh-requires c κs =
     let t = c .before .before .before .before .before .before .before .before .tessellate in
     let a = c .before .before .before .before .before .mesh-answer-of in
     let r = mesh-within _ _ (rw (o .ensures) at (t .ensures)) (a .ensures) (c .before .before .before .if1 .left) in
-    ((r .0, omega (arith, t .kept .1 .1 .1 .0)), (r .1, omega (arith, t .kept .1 .1 .1 .1 .0)))
+    ((r .0, omega (arith, t .kept .1 .1 .1 .0)), ((r .1, omega (arith, t .kept .1 .1 .1 .1 .0)), mesh-short _ _ (rw (o .ensures) at (t .ensures)) (a .ensures) (r .0)))
 
 returns-2 : tie.Need-returns-2
 returns-2 c =

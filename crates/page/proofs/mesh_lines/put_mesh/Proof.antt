@@ -15,7 +15,7 @@ put-count-requires-2 : tie.Need-put-count-requires-2
 put-count-requires-2 c κs = omega arith
 
 put-triangles-requires : tie.Need-put-triangles-requires
-put-triangles-requires c κs = omega arith
+put-triangles-requires c κs = (omega arith, (omega arith, c .before .before .before .before .before .before .before .before .before .pre .1 .1))
 
 returns : tie.Need-returns
 unfolding meshPage

@@ -1,5 +1,5 @@
 -- `page::mesh_lines::put_triangles` meets its contract. The loop's invariant is `Listing`. Assumes nothing.
-use Prim.Native.Nat.{_-_}
+use Prim.Native.Nat.{_+_, _-_, _*_}
 use native.Mathlib.Omega.{arith}
 use Rattle.page.specs.Page.{triangleLine}
 use Rattle.page.proofs.Listing.{Listing, listing-starts, listing-goes, listing-ends}
@@ -49,7 +49,10 @@ shared-slice-read-put-triangle-3 : tie.Need-shared-slice-read-put-triangle-3 Inv
 shared-slice-read-put-triangle-3 c = omega arith
 
 put-triangle-requires : tie.Need-put-triangle-requires Inv-loop μ-loop
-put-triangle-requires c κs = omega arith
+put-triangle-requires c κs =
+    let i = c .before .before .before .before .before .loop .i in
+    let short = c .before .before .before .before .before .before .before .pre .1 .1 in
+    (omega arith, (short (3 * i), short (3 * i + 1), short (3 * i + 2)))
 
 add-i : tie.Need-add-i Inv-loop μ-loop
 add-i c = omega arith
