@@ -30,7 +30,7 @@ pub fn answer(line: &[u8], place: Place, out: &mut Buffer, p: Printed) -> Printe
 // Four vertices of five floats, and two triangles of three numbers.
 fn cap(out: &mut Buffer, p: Printed, centre: Point, h: f32, a: f32) -> Printed {
     let mut v = [0.0f32; 20];
-    let mut t = [0u16; 6];
+    let mut t = [0u32; 6];
     fill_floats(&mut v);
     fill_numbers(&mut t);
     tessellate_empty_square_cap(&mut v, &mut t, VertexId(0), centre, h, a);

@@ -15,12 +15,12 @@ pub fn fill_floats(list: &mut [f32])
 }
 
 // Place i holds (i * 7 + 3) % 251.
-pub fn fill_numbers(list: &mut [u16])
+pub fn fill_numbers(list: &mut [u32])
     requires { ⌜ length (now list) ≤ 81920 ⌝ }
 {
     let mut i = 0;
     while i < list.len() {
-        list[i] = ((i * 7 + 3) % 251) as u16;
+        list[i] = ((i * 7 + 3) % 251) as u32;
         i += 1;
     }
 }

@@ -5,5 +5,6 @@ pub mod join_case;
 mod join_words;
 pub mod lent;
 pub mod normal_case;
+pub mod number_lists;
 mod reads;
 pub mod root_case;

@@ -27,7 +27,7 @@ pub fn answer_mesh(
     requires { ⌜ (front .floats ≤ 81920) × (front .numbers ≤ 49152) ⌝ }
 {
     let mut v = [0.0f32; VERTEX_ROOM];
-    let mut t = [0u16; TRIANGLE_ROOM];
+    let mut t = [0u32; TRIANGLE_ROOM];
     let n = front.floats;
     let m = front.numbers;
     let options = front.options;
@@ -41,7 +41,7 @@ fn answer_call(
     verbs: &[u8],
     coords: &[f32],
     v: &mut [f32],
-    t: &mut [u16],
+    t: &mut [u32],
 ) -> Printed
     requires { ⌜ (length (now v) ≤ 81920) × (length (now t) ≤ 81920) ⌝ }
 {
@@ -51,7 +51,7 @@ fn answer_call(
     answered(out, p, a, v, t)
 }
 
-fn answered(out: &mut Buffer, p: Printed, a: MeshAnswer, v: &[f32], t: &[u16]) -> Printed {
+fn answered(out: &mut Buffer, p: Printed, a: MeshAnswer, v: &[f32], t: &[u32]) -> Printed {
     let headed = head(out, p, b"mesh", a.number, a.place as u64);
     let with_vertices = number(out, headed, a.vertices as u64);
     let with_triangles = number(out, with_vertices, a.triangles as u64);

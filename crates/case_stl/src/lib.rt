@@ -1,5 +1,4 @@
 // The answers to `stlwrite` and `stlread` lines.
-mod number_lists;
 mod read_call;
 pub mod reading;
 mod write_call;

@@ -1,8 +1,8 @@
 // `stlwrite BYTELEN VERTICES TRIANGLES`, answered `stlwrite NUMBER PLACE BYTES BYTELIST`.
-use crate::number_lists::read_number_list;
 use crate::write_call::BYTE_ROOM;
 use crate::write_call::answer_write;
 use case_answers::float_lists::read_float_list;
+use case_answers::number_lists::read_number_list;
 use lines::numbers::read_up_to;
 use lines::words::Place;
 use lines::words::is_end;
@@ -16,6 +16,9 @@ const FLOAT_ROOM: usize = 32768;
 
 const NUMBER_ROOM: usize = 131072;
 
+// Any number that an `Index` holds.
+const NUMBER_MOST: u32 = 4294967295;
+
 // The whole line is read before the call is made.
 pub fn answer(line: &[u8], place: Place, out: &mut Buffer, p: Printed) -> Printed {
     let mut vertices = [0.0f32; FLOAT_ROOM];
@@ -24,7 +27,7 @@ pub fn answer(line: &[u8], place: Place, out: &mut Buffer, p: Printed) -> Printe
     let after_b = b.rest;
     let v = read_float_list(line, after_b, &mut vertices);
     let after_v = v.rest;
-    let t = read_number_list(line, after_v, &mut triangles);
+    let t = read_number_list(line, after_v, NUMBER_MOST, &mut triangles);
     let rest = t.rest;
     if !is_end(rest) {
         return bad_line(out, p);

@@ -4,7 +4,7 @@ use mathlib.Core.Path.{_≡_, refl, sym, ap, _∙_}
 use Prim.Native.Nat.{ℕ}
 use mathlib.Core.Bool.{cond}
 use lib.Dec.{eqb}
-use Rattle.refusals.specs.Numbers.{numberOf, accepted, outOfRange, tooManyVerbs, misplacedVerb, shortEdge, vertexRoom, longText, malformedText, largeNumber, triangleRoom}
+use Rattle.refusals.specs.Numbers.{numberOf, accepted, outOfRange, tooManyVerbs, misplacedVerb, shortEdge, vertexRoom, longText, malformedText, largeNumber, triangleRoom, listRoom}
 use Rattle.plane.specs.Normal.{normalAnswerOf}
 use Rattle.plane.specs.declared.normal.JoinDirection.{JoinDirection}
 use Rattle.plane.specs.declared.normal.JoinDirection.the-variants as normal
@@ -27,6 +27,10 @@ use Rattle.reader.specs.Answer.{readAnswerOf}
 use Rattle.reader.specs.declared.answer.ReadAnswer.{ReadAnswer}
 use Rattle.reader.specs.declared.answer.Reading.{Reading}
 use Rattle.reader.specs.declared.answer.Reading.the-variants as read
+use Rattle.widths.specs.Answer.{listedAnswerOf}
+use Rattle.widths.specs.declared.answer.Listed.{Listed}
+use Rattle.widths.specs.declared.answer.Listed.the-variants as list
+use Rattle.widths.specs.declared.answer.ListedAnswer.{ListedAnswer}
 
 same-case : {A B : Type 0} (numbers : A → B) (back : B → A) → ((r : A) → back (numbers r) ≡ r) → (r s : A) → numbers r ≡ numbers s → r ≡ s
 same-case numbers back is r s e = sym (is r) ∙ ap back e ∙ is s
@@ -120,3 +124,16 @@ reading-is read.NoRoom = refl
 
 pub one-reading : (r s : Reading) → readAnswerOf r ≡ readAnswerOf s → r ≡ s
 one-reading = same-case readAnswerOf reading reading-is
+
+-- ---- widen and narrow
+listed : ListedAnswer → Listed
+listed a = cond (eqb (a .number) (numberOf accepted)) (list.Numbers (a .count)) (cond (eqb (a .number) (numberOf listRoom)) list.ListRoom (list.WideNumber (a .place)))
+
+listed-is : (r : Listed) → listed (listedAnswerOf r) ≡ r
+unfolding listed
+listed-is (list.Numbers n) = refl
+listed-is list.ListRoom = refl
+listed-is (list.WideNumber i) = refl
+
+pub one-listed : (r s : Listed) → listedAnswerOf r ≡ listedAnswerOf s → r ≡ s
+one-listed = same-case listedAnswerOf listed listed-is

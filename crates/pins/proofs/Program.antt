@@ -1,5 +1,5 @@
 -- Document 01's example, computed: "For `M0 1L2 1` it prints just this". Assumes nothing.
-use mathlib.Core.Path.{refl}
+use native.Mathlib.Omega.{arith}
 use lib.Count.{leadingZeros}
 use lib.Ieee.{sub, mul, div, le, ofBits, toBits, ofInt, lt, neg, round}
 use Rattle.lists.specs.Over.{over, flat}
@@ -29,7 +29,7 @@ use Rattle.form.specs.Bytes.{classOf}
 use Rattle.reader.specs.Read.{scannedOf, formedOf, outcomeOf as readOf}
 use Rattle.reader.proofs.Meets.{meets}
 use Rattle.lines.specs.Digits.{glyphOf, digitsOf, placesUpTo, decimalOf}
-use Rattle.page.specs.Page.{bytes, verbRoom, coordRoom, linesTo, meshPage, meshPageOf, readPageOf, Prints}
+use Rattle.page.specs.Page.{bytes, verbRoom, coordRoom, linesTo, meshPage, meshPageOf, readPageOf, Prints, read-text}
 
 -- what the checker opens to compute it
 arithmetic : Unit {0}
@@ -62,4 +62,4 @@ calls = tt
 
 pub example : Prints (bytes "M0 1L2 1") (bytes "v 4\n00000000 40000000\n00000000 00000000\n40000000 40000000\n40000000 00000000\nt 2\n1 0 2\n1 2 3\n")
 unfolding arithmetic vectors joins paths runs meshes calls
-example = record { outcome = readOf (bytes "M0 1L2 1") verbRoom coordRoom; reads = meets (bytes "M0 1L2 1") verbRoom coordRoom; printed = refl }
+example = read-text (readOf (bytes "M0 1L2 1") verbRoom coordRoom) (omega arith) (meets (bytes "M0 1L2 1") verbRoom coordRoom)

@@ -32,7 +32,10 @@ use Rattle.reader.specs.Outcome as reader
 use Rattle.reader.specs.Reads.{Reads}
 use Rattle.reader.specs.declared.answer.Reading.{Reading}
 use Rattle.reader.proofs.Meets.{same-outcome}
-use Rattle.pins.proofs.Cases.{one-direction, one-stroked, one-checked, one-meshed, one-reading}
+use Rattle.widths.specs.Answer.{listedAnswerOf}
+use Rattle.widths.specs.Widths as widths
+use Rattle.widths.specs.declared.answer.Listed.{Listed}
+use Rattle.pins.proofs.Cases.{one-direction, one-stroked, one-checked, one-meshed, one-reading, one-listed}
 
 -- two answers have the same numbers and values, and are the same case
 abbrev pub Same : {A B : Type 0} → (A → B) → A → A → Type 0
@@ -71,6 +74,21 @@ stroke-one o r s h k = let n = h ∙ sym k in (n, one-stroked r s n)
 
 pub check-one : (verbs : List ℕ) (coords : List Float) (r s : Checked) → checkAnswerOf r ≡ checkedOf verbs coords → checkAnswerOf s ≡ checkedOf verbs coords → Same checkAnswerOf r s
 check-one verbs coords r s h k = let n = h ∙ sym k in (n, one-checked r s n)
+
+-- ---- widths::widen and widths::narrow: the answer and the list
+list-one : (o : widths.Outcome) (r s : Listed) (x y : List ℕ) → record { answer = listedAnswerOf r; list = x } ≡ o → record { answer = listedAnswerOf s; list = y } ≡ o → Same listedAnswerOf r s × (x ≡ y)
+list-one o r s x y h k =
+    let e = h ∙ sym k in
+    let n = ap (λ (p : widths.Outcome). p .answer) e in
+    ((n, one-listed r s n), ap (λ (p : widths.Outcome). p .list) e)
+
+pub widen-one : (xs ys : List ℕ) (r s : Listed) (x y : List ℕ) → record { answer = listedAnswerOf r; list = x } ≡ widths.widenOf xs ys → record { answer = listedAnswerOf s; list = y } ≡ widths.widenOf xs ys
+    → Same listedAnswerOf r s × (x ≡ y)
+widen-one xs ys = list-one (widths.widenOf xs ys)
+
+pub narrow-one : (xs ys : List ℕ) (r s : Listed) (x y : List ℕ) → record { answer = listedAnswerOf r; list = x } ≡ widths.narrowOf xs ys → record { answer = listedAnswerOf s; list = y } ≡ widths.narrowOf xs ys
+    → Same listedAnswerOf r s × (x ≡ y)
+narrow-one xs ys = list-one (widths.narrowOf xs ys)
 
 -- ---- window: by value and lent alike. Two windows that hold the same endpoints answer every later call alike; which slots hold them is left open.
 pub get-one : (w : PointBuffer) (i : ℕ) (g h : Got) → getAnswerOf g ≡ gotOf (items w) i → getAnswerOf h ≡ gotOf (items w) i → Same getAnswerOf g h

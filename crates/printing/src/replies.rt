@@ -41,7 +41,7 @@ pub fn float_answer(
 }
 
 // Prints the two lists of a mesh, and ends the line.
-pub fn mesh_lists(out: &mut Buffer, p: Printed, vertices: &[f32], triangles: &[u16]) -> Printed {
+pub fn mesh_lists(out: &mut Buffer, p: Printed, vertices: &[f32], triangles: &[u32]) -> Printed {
     let with_vertices = float_list(out, p, vertices);
     let with_triangles = number_list(out, with_vertices, triangles);
     line_end(out, with_triangles)

@@ -29,7 +29,7 @@ pub fn named_row(out: &mut Buffer, p: Printed, name: &[u8], values: &[f32]) -> P
 }
 
 // Prints how many numbers there are and the numbers.
-pub fn number_list(out: &mut Buffer, p: Printed, values: &[u16]) -> Printed {
+pub fn number_list(out: &mut Buffer, p: Printed, values: &[u32]) -> Printed {
     let mut q = number(out, p, values.len() as u64);
     let mut i = 0;
     while i < values.len() {

@@ -25,6 +25,8 @@ pub fn answer(line: &[u8], out: &mut Buffer, p: Printed) -> Printed {
         Kind::Cap => cap_case::answer(line, rest, out, p),
         Kind::StlWrite => case_stl::writing::answer(line, rest, out, p),
         Kind::StlRead => case_stl::reading::answer(line, rest, out, p),
+        Kind::Widen => case_widths::widening::answer(line, rest, out, p),
+        Kind::Narrow => case_widths::narrowing::answer(line, rest, out, p),
         Kind::None => bad_line(out, p),
     }
 }
@@ -39,6 +41,8 @@ enum Kind {
     Cap,
     StlWrite,
     StlRead,
+    Widen,
+    Narrow,
     None,
 }
 
@@ -69,6 +73,12 @@ fn kind_of(word: &[u8]) -> Kind {
     }
     if check::same(word, b"stlread") {
         return Kind::StlRead;
+    }
+    if check::same(word, b"widen") {
+        return Kind::Widen;
+    }
+    if check::same(word, b"narrow") {
+        return Kind::Narrow;
     }
     Kind::None
 }

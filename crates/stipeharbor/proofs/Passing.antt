@@ -21,7 +21,9 @@ use Rattle.reader.specs.declared.answer.ReadAnswer.{ReadAnswer}
 use Rattle.stl.specs.Read.{readOf}
 use Rattle.stl.specs.Write.{writeOf}
 use Rattle.stl.specs.declared.answer.StlAnswer.{StlAnswer}
-use Rattle.stipeharbor.specs.Calls.{tessellateOutOf, readOutOf, ReadsOut, rootOutOf, RootsOut, normalOutOf, stlWriteOutOf, stlReadOutOf}
+use Rattle.widths.specs.Widths.{Outcome}
+use Rattle.widths.specs.declared.answer.ListedAnswer.{ListedAnswer}
+use Rattle.stipeharbor.specs.Calls.{tessellateOutOf, readOutOf, ReadsOut, rootOutOf, RootsOut, normalOutOf, stlWriteOutOf, stlReadOutOf, listOutOf}
 
 pub is-tessellated : (verbs : List ℕ) (coords : List Float) (options : Options) (l : Lists) (answer : List ℕ) {l' : Lists} {r : MeshAnswer} → record { answer = r; lists = l' } ≡ outcomeOf verbs coords options l
     → {a : MeshAnswer} → a ≡ r → {answer' : List ℕ} → answer' ≡ over (a .place ∷ a .vertices ∷ a .triangles ∷ []) answer
@@ -63,3 +65,10 @@ pub stl-corners : (bytes : List ℕ) (corners corners' : List Float) (answer : L
     → record { number = a .number; answer = answer'; corners = corners' } ≡ stlReadOutOf bytes corners answer
 unfolding stlReadOutOf
 stl-corners bytes corners corners' answer r h a e answer' w = rw (← h, ← e, w)
+
+pub listed : (o : Outcome) (list' answer : List ℕ) (r : ListedAnswer) → record { answer = r; list = list' } ≡ o
+    → (a : ListedAnswer) → a ≡ r
+    → (answer' : List ℕ) → answer' ≡ over (a .place ∷ a .count ∷ []) answer
+    → record { number = a .number; answer = answer'; list = list' } ≡ listOutOf o answer
+unfolding listOutOf
+listed o list' answer r h a e answer' w = rw (← h, ← e, w)

@@ -9,7 +9,7 @@ use Rattle.options.specs.declared.Options.{Options}
 use Rattle.pieces.specs.Piece.{Lists}
 use Rattle.reader.specs.Outcome as reader
 use Rattle.reader.proofs.Meets.{same-outcome}
-use Rattle.stipeharbor.specs.Calls.{Tessellated, tessellateOutOf, ReadOut, readOutOf, ReadsOut, FloatsOut, rootOutOf, RootsOut, normalOutOf, StlWritten, stlWriteOutOf, StlCorners, stlReadOutOf}
+use Rattle.stipeharbor.specs.Calls.{Tessellated, tessellateOutOf, ReadOut, readOutOf, ReadsOut, FloatsOut, rootOutOf, RootsOut, normalOutOf, StlWritten, stlWriteOutOf, StlCorners, stlReadOutOf, ListOut, widenOutOf, narrowOutOf}
 
 pub tessellate-out-one : (verbs : List ℕ) (coords : List Float) (options : Options) (l : Lists) (answer : List ℕ) (a b : Tessellated)
     → a ≡ tessellateOutOf verbs coords options l answer → b ≡ tessellateOutOf verbs coords options l answer → a ≡ b
@@ -31,3 +31,9 @@ stl-write-out-one v t bytes answer a b h k = h ∙ sym k
 
 pub stl-read-out-one : (bytes : List ℕ) (corners : List Float) (answer : List ℕ) (a b : StlCorners) → a ≡ stlReadOutOf bytes corners answer → b ≡ stlReadOutOf bytes corners answer → a ≡ b
 stl-read-out-one bytes corners answer a b h k = h ∙ sym k
+
+pub widen-out-one : (numbers wide answer : List ℕ) (a b : ListOut) → a ≡ widenOutOf numbers wide answer → b ≡ widenOutOf numbers wide answer → a ≡ b
+widen-out-one numbers wide answer a b h k = h ∙ sym k
+
+pub narrow-out-one : (numbers narrowed answer : List ℕ) (a b : ListOut) → a ≡ narrowOutOf numbers narrowed answer → b ≡ narrowOutOf numbers narrowed answer → a ≡ b
+narrow-out-one numbers narrowed answer a b h k = h ∙ sym k

@@ -16,6 +16,7 @@ use Rattle.reader.specs.Outcome as reader
 use Rattle.reader.specs.Reads.{Reads}
 use Rattle.stl.specs.Read.{readOf}
 use Rattle.stl.specs.Write.{writeOf}
+use Rattle.widths.specs.Widths.{Outcome, widenOf, narrowOf}
 
 -- ---- stipeharbor_tessellate
 abbrev pub optionsOf : Float → Float → ℕ → ℕ → Float → Options
@@ -96,3 +97,18 @@ stlReadOutOf bytes corners answer =
     let o = readOf bytes corners in
     let a = o .answer in
     record { number = a .number; answer = over (a .place ∷ a .count ∷ []) answer; corners = o .corners }
+
+-- ---- stipeharbor_widen and stipeharbor_narrow: the place, then the count
+pub record ListOut : Type 0 where
+  pub number : ℕ
+  pub answer : List ℕ
+  pub list : List ℕ
+
+unfoldable pub listOutOf : Outcome → List ℕ → ListOut
+listOutOf o answer = let a = o .answer in record { number = a .number; answer = over (a .place ∷ a .count ∷ []) answer; list = o .list }
+
+abbrev pub widenOutOf : List ℕ → List ℕ → List ℕ → ListOut
+widenOutOf numbers wide answer = listOutOf (widenOf numbers wide) answer
+
+abbrev pub narrowOutOf : List ℕ → List ℕ → List ℕ → ListOut
+narrowOutOf numbers narrowed answer = listOutOf (narrowOf numbers narrowed) answer

@@ -1,4 +1,4 @@
-// The library as C and Rust link it: six calls over numbers and slices, each answering document 01's number. What a number stands for is written over
+// The library as C and Rust link it: eight calls over numbers and slices, each answering document 01's number. What a number stands for is written over
 // the start of a list that the caller lends, as far as that list goes, so no call has a `requires`.
 mod put;
 
@@ -21,9 +21,12 @@ use stl_read::answer::corners_answer_of;
 use stl_read::stl_read;
 use stl_write::answer::written_answer_of;
 use stl_write::stl_write;
+use widths::answer::listed_answer_of;
+use widths::narrow;
+use widths::widen;
 ghost use mathlib.Core.Path.{_≡_};
 ghost use Rattle.pieces.specs.Piece.{lent};
-ghost use Rattle.stipeharbor.specs.Calls.{optionsOf, tessellated, tessellateOutOf, normalOutOf, ReadsOut, RootsOut, stlWriteOutOf, stlReadOutOf};
+ghost use Rattle.stipeharbor.specs.Calls.{optionsOf, tessellated, tessellateOutOf, normalOutOf, ReadsOut, RootsOut, stlWriteOutOf, stlReadOutOf, widenOutOf, narrowOutOf};
 
 // The mesh call. `answer` gets the place, the number of vertices and the number of triangles.
 #[no_mangle]
@@ -100,7 +103,7 @@ pub extern "C" fn stipeharbor_compute_normal(
 #[no_mangle]
 pub extern "C" fn stipeharbor_stl_write(
     vertices: &[f32],
-    triangles: &[u16],
+    triangles: &[Index],
     bytes: &mut [u8],
     answer: &mut [usize],
 ) -> u32
@@ -123,4 +126,28 @@ pub extern "C" fn stipeharbor_stl_read(
     let c = corners_answer_of(stl_read(bytes, corners));
     put_pair(answer, c.place, c.count);
     c.number
+}
+
+// Widens a stored list. `answer` gets the place and how many numbers were put there.
+#[no_mangle]
+pub extern "C" fn stipeharbor_widen(numbers: &[u16], wide: &mut [u32], answer: &mut [usize]) -> u32
+    ensures { λ r. ⌜ record { number = r; answer = now (answer .exit); list = now (wide .exit) } ≡ widenOutOf (now (numbers .entry)) (now (wide .entry)) (now (answer .entry)) ⌝ }
+{
+    let l = listed_answer_of(widen(numbers, wide));
+    put_pair(answer, l.place, l.count);
+    l.number
+}
+
+// Narrows a list to be stored. `answer` gets the place and how many numbers were put there.
+#[no_mangle]
+pub extern "C" fn stipeharbor_narrow(
+    numbers: &[u32],
+    narrowed: &mut [u16],
+    answer: &mut [usize],
+) -> u32
+    ensures { λ r. ⌜ record { number = r; answer = now (answer .exit); list = now (narrowed .exit) } ≡ narrowOutOf (now (numbers .entry)) (now (narrowed .entry)) (now (answer .entry)) ⌝ }
+{
+    let l = listed_answer_of(narrow(numbers, narrowed));
+    put_pair(answer, l.place, l.count);
+    l.number
 }

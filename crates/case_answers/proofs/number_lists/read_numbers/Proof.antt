@@ -1,17 +1,17 @@
--- `case_stl::number_lists::read_numbers` is safe and ends. The measure is the number of places that are left. Assumes nothing.
+-- `case_answers::number_lists::read_numbers` is safe and ends. The measure is the number of places that are left. Assumes nothing.
 use borrow.Author.Needs.{needs}
 use Prim.Native.Nat.{_-_}
 use mathlib.Core.Path.{_≡_, refl}
 use native.Mathlib.Omega.{arith}
 use lib.ListN.{length, length-set}
-use Rattle.case_stl.proofs.number_lists.read_numbers.Statement.{statement}
-use Rattle.case_stl.proofs.number_lists.read_numbers.Tie as tie
+use Rattle.case_answers.proofs.number_lists.read_numbers.Statement.{statement}
+use Rattle.case_answers.proofs.number_lists.read_numbers.Tie as tie
 
 abbrev Inv-loop : tie.InvT-loop
-Inv-loop line list₀ at₀ i₀ list at i = length list ≡ length list₀
+Inv-loop line most list₀ at₀ i₀ list at i = length list ≡ length list₀
 
 abbrev μ-loop : tie.MeasureT-loop
-μ-loop line list₀ at₀ i₀ list at i = length list - i
+μ-loop line most list₀ at₀ i₀ list at i = length list - i
 
 loop-holds : tie.Need-loop-holds Inv-loop μ-loop
 loop-holds c = refl

@@ -1,9 +1,9 @@
--- `case_stl::number_lists::read_number_list` meets its contract: a count that is read is no larger than the lent list. Assumes nothing.
+-- `case_answers::number_lists::read_number_list` meets its contract: a count that is read is no larger than the lent list. Assumes nothing.
 use borrow.Author.Needs.{needs}
 use mathlib.Core.Path.{sym}
 use lib.Seq.{length-take-le}
-use Rattle.case_stl.proofs.number_lists.read_number_list.Statement.{statement}
-use Rattle.case_stl.proofs.number_lists.read_number_list.Tie as tie
+use Rattle.case_answers.proofs.number_lists.read_number_list.Statement.{statement}
+use Rattle.case_answers.proofs.number_lists.read_number_list.Tie as tie
 
 read-up-to-requires : tie.Need-read-up-to-requires
 read-up-to-requires c κs = search needs
