@@ -37,7 +37,8 @@ enum stipeharbor_number {
     STIPEHARBOR_FILE_ROOM = 14,     /* the byte list is too short for the STL file */
     STIPEHARBOR_FILE_LENGTH = 15,   /* the STL file is not as long as its count of triangles says */
     STIPEHARBOR_CORNER = 16,        /* the triangle at the place has a corner that is not finite, a z that is not zero or, in writing, a number that has no vertex */
-    STIPEHARBOR_CORNER_ROOM = 17    /* the list is too short for the STL file's corners */
+    STIPEHARBOR_LIST_ROOM = 17,     /* the list is too short for the STL file's corners, or to widen or narrow into */
+    STIPEHARBOR_WIDE_NUMBER = 18    /* the number at the place is above STIPEHARBOR_NARROW_MOST */
 };
 
 /* Verbs. A begin and a line have two coordinates each. */
@@ -56,8 +57,9 @@ enum stipeharbor_number {
 #define STIPEHARBOR_SQUARE 1
 
 /* Limits, all of them included. */
-#define STIPEHARBOR_VERB_LIMIT 4096
-#define STIPEHARBOR_TEXT_LIMIT 16384
+#define STIPEHARBOR_VERB_LIMIT 65536
+#define STIPEHARBOR_TEXT_LIMIT 1048576
+#define STIPEHARBOR_NARROW_MOST 65535
 #define STIPEHARBOR_COORDINATE_LIMIT 32768.0f
 #define STIPEHARBOR_WIDTH_LEAST 0.00390625f
 #define STIPEHARBOR_WIDTH_MOST 16384.0f
@@ -81,7 +83,7 @@ uint32_t stipeharbor_tessellate(
     uint32_t line_cap,
     float merge_range,
     float *vertices, size_t vertices_len,
-    uint16_t *triangles, size_t triangles_len,
+    uint32_t *triangles, size_t triangles_len,
     size_t *answer, size_t answer_len);
 
 /* Reads path text (M, L, H, V and Z in either case, decimals of up to six places) into the start of `verbs` and of `coords`, as stipeharbor_tessellate takes them. Elements behind keep what they have.
@@ -116,7 +118,7 @@ uint32_t stipeharbor_compute_normal(
  * `answer` gets the place (of 16, else 0) and the number of bytes (of 0, else 0). */
 uint32_t stipeharbor_stl_write(
     const float *vertices, size_t vertices_len,
-    const uint16_t *triangles, size_t triangles_len,
+    const uint32_t *triangles, size_t triangles_len,
     uint8_t *bytes, size_t bytes_len,
     size_t *answer, size_t answer_len);
 
@@ -127,6 +129,22 @@ uint32_t stipeharbor_stl_write(
 uint32_t stipeharbor_stl_read(
     const uint8_t *bytes, size_t bytes_len,
     float *corners, size_t corners_len,
+    size_t *answer, size_t answer_len);
+
+/* Puts a stored list over the start of `wide`: a triangle list of handhelds that hold 16-bit numbers becomes one that the calls above take. Numbers behind it keep what they have.
+ * Refusal 17; it leaves `wide` as it was.
+ * `answer` gets the place (0) and how many numbers were put there (of 0, else 0). */
+uint32_t stipeharbor_widen(
+    const uint16_t *numbers, size_t numbers_len,
+    uint32_t *wide, size_t wide_len,
+    size_t *answer, size_t answer_len);
+
+/* Puts a list over the start of `narrowed`, to be stored, where no number is above STIPEHARBOR_NARROW_MOST. Either call undoes the other.
+ * Refusals 17 and 18; one leaves `narrowed` as it was.
+ * `answer` gets the place (of 18, else 0) and how many numbers were put there (of 0, else 0). */
+uint32_t stipeharbor_narrow(
+    const uint32_t *numbers, size_t numbers_len,
+    uint16_t *narrowed, size_t narrowed_len,
     size_t *answer, size_t answer_len);
 
 #ifdef __cplusplus

@@ -56,7 +56,7 @@ static void values(void)
 static void stl(void)
 {
     static const float vertices[] = {0.0f, -0.0f, 9.0f, 9.0f, 9.0f, 1.0f, 2.0f, 9.0f, 9.0f, 9.0f};
-    static const uint16_t triangles[] = {0, 1, 0, 1, 0, 2};
+    static const uint32_t triangles[] = {0, 1, 0, 1, 0, 2};
     uint8_t bytes[185];
     float corners[7] = {UNTOUCHED, UNTOUCHED, UNTOUCHED, UNTOUCHED, UNTOUCHED, UNTOUCHED, UNTOUCHED};
     size_t answer[3] = {UNTOUCHED, UNTOUCHED, UNTOUCHED};
@@ -69,7 +69,7 @@ static void stl(void)
     expect(stipeharbor_stl_write(vertices, 10, triangles, 3, bytes, 185, answer, 3) == STIPEHARBOR_ACCEPTED && answer[0] == 0 && answer[1] == 134 && answer[2] == UNTOUCHED,
            "a triangle is a file of 134 bytes");
     expect(bytes[0] == 0 && bytes[80] == 1 && bytes[83] == 0 && bytes[110] == 0x80 && bytes[111] == 0x3F && bytes[133] == 0 && bytes[134] == UNTOUCHED, "the bytes of the file");
-    expect(stipeharbor_stl_read(bytes, 134, corners, 5, answer, 3) == STIPEHARBOR_CORNER_ROOM && answer[1] == 0 && corners[0] == UNTOUCHED, "five floats are too few");
+    expect(stipeharbor_stl_read(bytes, 134, corners, 5, answer, 3) == STIPEHARBOR_LIST_ROOM && answer[1] == 0 && corners[0] == UNTOUCHED, "five floats are too few");
     expect(stipeharbor_stl_read(bytes, 135, corners, 7, NULL, 0) == STIPEHARBOR_FILE_LENGTH && corners[0] == UNTOUCHED, "a byte too many");
     expect(stipeharbor_stl_read(bytes, 134, corners, 7, answer, 3) == STIPEHARBOR_ACCEPTED && answer[1] == 6 && corners[2] == 1.0f && corners[3] == 2.0f && corners[6] == UNTOUCHED,
            "the corners are read back");
@@ -80,11 +80,28 @@ static void stl(void)
     expect(stipeharbor_stl_read(NULL, 0, NULL, 0, NULL, 0) == STIPEHARBOR_FILE_LENGTH, "no bytes are none");
 }
 
+/* A stored list there and back; refusals 17 and 18, each changing nothing. */
+static void widths(void)
+{
+    static const uint16_t stored[] = {0, 1, 65535};
+    static const uint32_t large[] = {1, 65536};
+    uint32_t wide[4] = {UNTOUCHED, UNTOUCHED, UNTOUCHED, UNTOUCHED};
+    uint16_t narrowed[4] = {UNTOUCHED, UNTOUCHED, UNTOUCHED, UNTOUCHED};
+    size_t answer[3] = {UNTOUCHED, UNTOUCHED, UNTOUCHED};
+    expect(stipeharbor_widen(stored, 3, wide, 2, answer, 3) == STIPEHARBOR_LIST_ROOM && answer[1] == 0 && answer[2] == UNTOUCHED && wide[0] == UNTOUCHED, "two places are too few to widen into");
+    expect(stipeharbor_widen(stored, 3, wide, 4, answer, 3) == STIPEHARBOR_ACCEPTED && answer[1] == 3 && wide[2] == STIPEHARBOR_NARROW_MOST && wide[3] == UNTOUCHED, "three numbers are widened");
+    expect(stipeharbor_narrow(large, 2, narrowed, 1, answer, 3) == STIPEHARBOR_LIST_ROOM && answer[0] == 0, "want of room is told before a number too large");
+    expect(stipeharbor_narrow(large, 2, narrowed, 4, answer, 3) == STIPEHARBOR_WIDE_NUMBER && answer[0] == 1 && answer[1] == 0 && narrowed[0] == UNTOUCHED, "the second number is too large");
+    expect(stipeharbor_narrow(wide, 3, narrowed, 4, answer, 3) == STIPEHARBOR_ACCEPTED && answer[1] == 3 && narrowed[2] == stored[2] && narrowed[3] == UNTOUCHED, "what was widened is narrowed");
+    expect(stipeharbor_widen(NULL, 0, NULL, 0, NULL, 0) == STIPEHARBOR_ACCEPTED && stipeharbor_narrow(NULL, 0, NULL, 0, NULL, 0) == STIPEHARBOR_ACCEPTED, "no numbers are a list");
+}
+
 int main(void)
 {
     short_answers();
     nulls();
     values();
     stl();
+    widths();
     return failures != 0;
 }

@@ -7,12 +7,12 @@
 #include <string.h>
 #include <math.h>
 
-enum { POINTS = 4095 };
+enum { POINTS = 65535 };
 
 static uint8_t verbs[POINTS + 1];
 static float coords[2 * POINTS];
 static float vertices[5 * 4 * POINTS];
-static uint16_t triangles[3 * 4 * POINTS];
+static uint32_t triangles[3 * 4 * POINTS];
 
 /* Turns to 17 degrees, to 169, or of 90, to either side as a congruential sequence says. */
 static void fill(const char *kind, size_t n) {

@@ -1,7 +1,7 @@
 //! The program: path text in, a printed mesh or a refusal out.
 
 use crate::mesh::{mesh, Options};
-use crate::path::Path;
+use crate::path::{Path, MAX_VERBS};
 use crate::reader::read;
 use crate::routines::Routines;
 use std::fmt::Write;
@@ -23,8 +23,18 @@ pub fn run<R: Routines>(text: &[u8]) -> String {
     if text.len() > MAX_TEXT {
         return refused(8, 0);
     }
-    let mut verbs = [0; 1024];
-    let mut coordinates = [0.0; 2048];
+    printed_of::<R>(text, 1024, 1536)
+}
+
+/// The same with room for any path that is accepted: what examples/large.c prints.
+pub fn whole<R: Routines>(text: &[u8]) -> String {
+    printed_of::<R>(text, 4 * MAX_VERBS, 4 * MAX_VERBS)
+}
+
+/// With room for as many verbs as vertices.
+fn printed_of<R: Routines>(text: &[u8], vertices: usize, triangles: usize) -> String {
+    let mut verbs = vec![0; vertices];
+    let mut coordinates = vec![0.0; 2 * vertices];
     let read = read(text, &mut verbs, &mut coordinates);
     if read.number != 0 {
         return refused(read.number, read.place);
@@ -33,8 +43,8 @@ pub fn run<R: Routines>(text: &[u8]) -> String {
         verbs: &verbs[..read.counts.0],
         coordinates: &coordinates[..read.counts.1],
     };
-    let mut vertices = [0.0; 5 * 1024];
-    let mut triangles = [0; 3 * 1536];
+    let mut vertices = vec![0.0; 5 * vertices];
+    let mut triangles = vec![0; 3 * triangles];
     let drawn = mesh::<R>(path, OPTIONS, &mut vertices, &mut triangles);
     if drawn.number != 0 {
         return refused(drawn.number, drawn.place);

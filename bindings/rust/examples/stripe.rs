@@ -5,7 +5,10 @@
 use std::fmt::Write as _;
 use std::io::{self, Read, Write};
 use std::process::ExitCode;
-use stipeharbor::{read, tessellate, Cap, Join, Options, Refusal, MERGE_RANGE_LEAST, TEXT_LIMIT};
+use stipeharbor::{read, tessellate, Cap, Join, Options, Refusal, MERGE_RANGE_LEAST};
+
+/// The longest text that the program takes; the library takes longer ones.
+const TEXT_ROOM: usize = 16_384;
 
 const OPTIONS: Options = Options {
     width: 2.0,
@@ -16,6 +19,9 @@ const OPTIONS: Options = Options {
 };
 
 fn drawn(text: &[u8]) -> Result<String, Refusal> {
+    if text.len() > TEXT_ROOM {
+        return Err(Refusal::TooLong);
+    }
     let (mut verbs, mut coords) = ([0; 1024], [0.0; 2048]);
     let (mut vertices, mut triangles) = ([0.0; 5 * 1024], [0; 3 * 1536]);
     let path = read(text, &mut verbs, &mut coords)?;
@@ -28,7 +34,7 @@ fn drawn(text: &[u8]) -> Result<String, Refusal> {
     .expect("a string takes any text"))
 }
 
-fn printed(vertices: &[f32], triangles: &[u16]) -> Result<String, std::fmt::Error> {
+fn printed(vertices: &[f32], triangles: &[u32]) -> Result<String, std::fmt::Error> {
     let mut out = String::new();
     writeln!(out, "v {}", vertices.len() / 5)?;
     for v in vertices.chunks_exact(5) {
@@ -43,10 +49,10 @@ fn printed(vertices: &[f32], triangles: &[u16]) -> Result<String, std::fmt::Erro
 
 /// The whole job; whether there was a mesh.
 fn run() -> Result<bool, String> {
-    // One byte more than a text may have: what comes after it changes nothing.
+    // One byte more than is taken: what comes after it changes nothing.
     let mut text = Vec::new();
     io::stdin()
-        .take(TEXT_LIMIT as u64 + 1)
+        .take(TEXT_ROOM as u64 + 1)
         .read_to_end(&mut text)
         .map_err(|error| format!("the input could not be read: {}", error))?;
     let page = drawn(&text);

@@ -1,4 +1,4 @@
-//! The proved library's six calls in safe Rust. A path goes in; the mesh of its stripe or one
+//! The proved library's eight calls in safe Rust. A path goes in; the mesh of its stripe or one
 //! [`Refusal`] comes out.
 //!
 //! ```
@@ -40,9 +40,11 @@ pub const END_OPEN: u8 = 2;
 /// A verb that ends a run closed.
 pub const END_CLOSED: u8 = 3;
 /// The most verbs that a path may have.
-pub const VERB_LIMIT: usize = 4096;
+pub const VERB_LIMIT: usize = 65_536;
 /// The most bytes that a path text may have.
-pub const TEXT_LIMIT: usize = 16_384;
+pub const TEXT_LIMIT: usize = 1_048_576;
+/// The greatest number that [`narrow`] takes.
+pub const NARROW_MOST: u32 = 65_535;
 /// The least merge range, 1/128: no point is left out but those too near to be drawn.
 pub const MERGE_RANGE_LEAST: f32 = 0.007_812_5;
 /// The greatest merge range.
@@ -111,7 +113,7 @@ pub fn tessellate(
     coordinates: &[f32],
     options: Options,
     vertices: &mut [f32],
-    triangles: &mut [u16],
+    triangles: &mut [u32],
 ) -> Result<Mesh, Refusal> {
     let mut answer = [0; 3];
     let number = raw::tessellate(
@@ -164,7 +166,7 @@ pub fn compute_normal(v1: [f32; 2], v2: [f32; 2]) -> Result<[f32; 2], Refusal> {
 /// Writes a mesh as binary STL to the start of `bytes`, and says how many: 84, and 50 to a triangle.
 /// The lists are those that [`tessellate`] fills, cut to its counts; what is left over of five
 /// floats or three numbers is no part.
-pub fn stl_write(vertices: &[f32], triangles: &[u16], bytes: &mut [u8]) -> Result<usize, Refusal> {
+pub fn stl_write(vertices: &[f32], triangles: &[u32], bytes: &mut [u8]) -> Result<usize, Refusal> {
     let mut answer = [0; 2];
     let number = raw::stl_write(vertices, triangles, bytes, &mut answer);
     let [place, count] = answer;
@@ -181,7 +183,7 @@ pub fn stl_read(bytes: &[u8], corners: &mut [f32]) -> Result<usize, Refusal> {
 }
 
 /// [`stl_write`] into a list of its own.
-pub fn stl_file(vertices: &[f32], triangles: &[u16]) -> Result<Vec<u8>, Refusal> {
+pub fn stl_file(vertices: &[f32], triangles: &[u32]) -> Result<Vec<u8>, Refusal> {
     let mut bytes = vec![0; 84 + 50 * (triangles.len() / 3)];
     stl_write(vertices, triangles, &mut bytes)?;
     Ok(bytes)
@@ -193,4 +195,22 @@ pub fn stl_corners(bytes: &[u8]) -> Result<Vec<f32>, Refusal> {
     let count = stl_read(bytes, &mut corners)?;
     corners.truncate(count);
     Ok(corners)
+}
+
+/// Puts a stored list over the start of `wide`, and says how many numbers: what [`tessellate`]
+/// wrote before its triangle list was `u32` is so made a list of today.
+pub fn widen(numbers: &[u16], wide: &mut [u32]) -> Result<usize, Refusal> {
+    let mut answer = [0; 2];
+    let number = raw::widen(numbers, wide, &mut answer);
+    let [place, count] = answer;
+    Refusal::or(number, place, 0, 0).map(|()| count)
+}
+
+/// Puts a list over the start of `narrowed`, to be stored, and says how many numbers. A number
+/// above [`NARROW_MOST`] is refused.
+pub fn narrow(numbers: &[u32], narrowed: &mut [u16]) -> Result<usize, Refusal> {
+    let mut answer = [0; 2];
+    let number = raw::narrow(numbers, narrowed, &mut answer);
+    let [place, count] = answer;
+    Refusal::or(number, place, 0, 0).map(|()| count)
 }

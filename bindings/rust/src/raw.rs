@@ -1,4 +1,4 @@
-//! The six calls as C has them, on slices: each returns the number, and writes what it stands for
+//! The eight calls as C has them, on slices: each returns the number, and writes what it stands for
 //! over the start of its last list, as far as that goes. Joins and caps are numbers here, any at
 //! all. No other file has `unsafe`.
 
@@ -15,7 +15,7 @@ extern "C" {
         merge_range: f32,
         vertices: *mut f32,
         vertices_len: usize,
-        triangles: *mut u16,
+        triangles: *mut u32,
         triangles_len: usize,
         answer: *mut usize,
         answer_len: usize,
@@ -42,7 +42,7 @@ extern "C" {
     fn stipeharbor_stl_write(
         vertices: *const f32,
         vertices_len: usize,
-        triangles: *const u16,
+        triangles: *const u32,
         triangles_len: usize,
         bytes: *mut u8,
         bytes_len: usize,
@@ -54,6 +54,22 @@ extern "C" {
         bytes_len: usize,
         corners: *mut f32,
         corners_len: usize,
+        answer: *mut usize,
+        answer_len: usize,
+    ) -> u32;
+    fn stipeharbor_widen(
+        numbers: *const u16,
+        numbers_len: usize,
+        wide: *mut u32,
+        wide_len: usize,
+        answer: *mut usize,
+        answer_len: usize,
+    ) -> u32;
+    fn stipeharbor_narrow(
+        numbers: *const u32,
+        numbers_len: usize,
+        narrowed: *mut u16,
+        narrowed_len: usize,
         answer: *mut usize,
         answer_len: usize,
     ) -> u32;
@@ -70,7 +86,7 @@ pub fn tessellate(
     line_cap: u32,
     merge_range: f32,
     vertices: &mut [f32],
-    triangles: &mut [u16],
+    triangles: &mut [u32],
     answer: &mut [usize],
 ) -> u32 {
     // SAFETY: each pair is a live slice's; those that are written are exclusive borrows.
@@ -127,7 +143,7 @@ pub fn compute_normal(x1: f32, y1: f32, x2: f32, y2: f32, normal: &mut [f32]) ->
 /// `answer` gets the place and the number of bytes.
 pub fn stl_write(
     vertices: &[f32],
-    triangles: &[u16],
+    triangles: &[u32],
     bytes: &mut [u8],
     answer: &mut [usize],
 ) -> u32 {
@@ -155,6 +171,36 @@ pub fn stl_read(bytes: &[u8], corners: &mut [f32], answer: &mut [usize]) -> u32 
             bytes.len(),
             corners.as_mut_ptr(),
             corners.len(),
+            answer.as_mut_ptr(),
+            answer.len(),
+        )
+    }
+}
+
+/// `answer` gets the place and how many numbers were put there.
+pub fn widen(numbers: &[u16], wide: &mut [u32], answer: &mut [usize]) -> u32 {
+    // SAFETY: each pair is a live slice's; those that are written are exclusive borrows.
+    unsafe {
+        stipeharbor_widen(
+            numbers.as_ptr(),
+            numbers.len(),
+            wide.as_mut_ptr(),
+            wide.len(),
+            answer.as_mut_ptr(),
+            answer.len(),
+        )
+    }
+}
+
+/// `answer` gets the place and how many numbers were put there.
+pub fn narrow(numbers: &[u32], narrowed: &mut [u16], answer: &mut [usize]) -> u32 {
+    // SAFETY: each pair is a live slice's; those that are written are exclusive borrows.
+    unsafe {
+        stipeharbor_narrow(
+            numbers.as_ptr(),
+            numbers.len(),
+            narrowed.as_mut_ptr(),
+            narrowed.len(),
             answer.as_mut_ptr(),
             answer.len(),
         )

@@ -70,8 +70,13 @@ pub enum Refusal {
         /// Which triangle.
         place: usize,
     },
-    /// 17: the list is too short for the STL file's corners.
-    CornerRoom,
+    /// 17: the list is too short for the STL file's corners, or to widen or narrow into.
+    ListRoom,
+    /// 18: the number at the place is above [`NARROW_MOST`](crate::NARROW_MOST).
+    WideNumber {
+        /// Which number.
+        place: usize,
+    },
 }
 
 impl Refusal {
@@ -105,7 +110,8 @@ impl Refusal {
             14 => Refusal::FileRoom,
             15 => Refusal::FileLength,
             16 => Refusal::Corner { place },
-            17 => Refusal::CornerRoom,
+            17 => Refusal::ListRoom,
+            18 => Refusal::WideNumber { place },
             _ => unreachable!("the library is proved to answer no other number"),
         })
     }
@@ -128,7 +134,8 @@ impl Refusal {
             Refusal::FileRoom => 14,
             Refusal::FileLength => 15,
             Refusal::Corner { .. } => 16,
-            Refusal::CornerRoom => 17,
+            Refusal::ListRoom => 17,
+            Refusal::WideNumber { .. } => 18,
         }
     }
 
@@ -140,7 +147,8 @@ impl Refusal {
             | Refusal::ShortEdge { place }
             | Refusal::OutOfForm { place }
             | Refusal::TooLarge { place }
-            | Refusal::Corner { place } => place,
+            | Refusal::Corner { place }
+            | Refusal::WideNumber { place } => place,
             _ => 0,
         }
     }

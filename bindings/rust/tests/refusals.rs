@@ -1,9 +1,9 @@
 //! Each refusal, on its smallest input, and what an accepted call answers.
 
 use stipeharbor::{compute_normal, read, root, tessellate};
-use stipeharbor::{stl_corners, stl_file, stl_read, stl_write};
+use stipeharbor::{narrow, stl_corners, stl_file, stl_read, stl_write, widen};
 use stipeharbor::{Cap, Join, Mesh, Options, Path, Refusal, BEGIN, END_CLOSED, END_OPEN, LINE};
-use stipeharbor::{MERGE_RANGE_LEAST, MERGE_RANGE_MOST};
+use stipeharbor::{MERGE_RANGE_LEAST, MERGE_RANGE_MOST, TEXT_LIMIT};
 
 const OPTIONS: Options = Options {
     width: 2.0,
@@ -27,7 +27,7 @@ fn of_a_mesh() {
     };
     let far = [0.0, 1.0, 2.0, 32_769.0];
     assert_eq!(mesh(&VERBS, &COORDINATES, wide), Err(Refusal::OutOfRange));
-    assert_eq!(mesh(&[9; 4097], &[], OPTIONS), Err(Refusal::TooManyVerbs));
+    assert_eq!(mesh(&[9; 65_537], &[], OPTIONS), Err(Refusal::TooManyVerbs));
     assert_eq!(mesh(&[LINE], &[], OPTIONS), Err(Refusal::Verb { place: 0 }));
     assert_eq!(
         mesh(&[BEGIN], &[0.0; 2], OPTIONS),
@@ -112,7 +112,8 @@ fn of_a_text() {
         coordinates: 4,
     };
     assert_eq!(text(b"M0 1L2 1"), Ok(path));
-    assert_eq!(text(&[b' '; 16_385]), Err(Refusal::TooLong));
+    assert_eq!(text(&[b' '; 16_385]).map(|p| p.verbs), Ok(0));
+    assert_eq!(text(&vec![b' '; TEXT_LIMIT + 1]), Err(Refusal::TooLong));
     assert_eq!(text(b"M0 0x"), Err(Refusal::OutOfForm { place: 4 }));
     assert_eq!(text(b"M0 -32769"), Err(Refusal::TooLarge { place: 3 }));
     assert_eq!(text(b"M0 0 1 1 2 2"), Err(Refusal::NoRoom));
@@ -130,7 +131,7 @@ fn of_values() {
 #[test]
 fn of_stl() {
     let vertices = [0.0, -0.0, 9.0, 9.0, 9.0, 1.0, 2.0, 9.0, 9.0, 9.0];
-    let write = |triangles: &[u16], room: usize| {
+    let write = |triangles: &[u32], room: usize| {
         let mut bytes = vec![7; room];
         let answer = stl_write(&vertices, triangles, &mut bytes);
         assert!(answer.is_ok() || bytes.iter().all(|&b| b == 7));
@@ -148,7 +149,7 @@ fn of_stl() {
     let bits = |floats: &[f32]| floats.iter().map(|x| x.to_bits()).collect::<Vec<_>>();
     assert_eq!(bits(&corners), bits(&[0.0, -0.0, 1.0, 2.0, 0.0, -0.0]));
     assert_eq!(stl_corners(&file[1..]), Err(Refusal::FileLength));
-    assert_eq!(stl_read(&file, &mut [0.0; 5]), Err(Refusal::CornerRoom));
+    assert_eq!(stl_read(&file, &mut [0.0; 5]), Err(Refusal::ListRoom));
     let mut high = file;
     high[104] = 1;
     assert_eq!(stl_corners(&high), Err(Refusal::Corner { place: 0 }));
@@ -161,4 +162,21 @@ fn in_words() {
     assert_eq!(refusal.to_string(), "refused 9 4");
     assert_eq!((refusal.number(), refusal.place()), (9, 4));
     assert_eq!((Refusal::NoRoot.number(), Refusal::NoRoot.place()), (13, 0));
+}
+
+#[test]
+fn of_stored_lists() {
+    let stored = [0, 1, 65_535];
+    let mut wide = [7; 4];
+    assert_eq!(widen(&stored, &mut wide), Ok(3));
+    assert_eq!(wide, [0, 1, 65_535, 7]);
+    let mut narrowed = [7; 3];
+    assert_eq!(narrow(&wide[..3], &mut narrowed), Ok(3));
+    assert_eq!(narrowed, stored);
+    assert_eq!(widen(&stored, &mut wide[..2]), Err(Refusal::ListRoom));
+    // Want of room is told first.
+    assert_eq!(narrow(&[1, 65_536], &mut [7]), Err(Refusal::ListRoom));
+    let refused = narrow(&[1, 65_536], &mut narrowed);
+    assert_eq!(refused, Err(Refusal::WideNumber { place: 1 }));
+    assert_eq!(narrowed, stored);
 }
