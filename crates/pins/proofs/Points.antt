@@ -146,8 +146,8 @@ cases =
     ∷ keeps 0x3c000000 (0 ∷ 0 ∷ 0x3c000000 ∷ 0 ∷ []) 2 ∷ keeps 0x3c000000 (0 ∷ 0 ∷ 0x3b800000 ∷ 0 ∷ []) 1
     ∷ mesh (pen 0 0) (begin ∷ line ∷ endOpen ∷ []) (0 ∷ 0 ∷ 0x3c000000 ∷ 0 ∷ []) 4 2 0 0 4 2
     ∷ mesh (pen 0 0) (begin ∷ line ∷ endOpen ∷ []) (0 ∷ 0 ∷ 0x3b800000 ∷ 0 ∷ []) 0 0 0 0 0 0
-    -- an option, the verbs and a coordinate all wrong: 1; too many verbs: 2; the coordinate: 4
-    ∷ mesh (pen 3 0) (line ∷ []) (0x7fc00000 ∷ 0 ∷ []) 0 0 1 0 0 0 ∷ mesh (pen 0 0) (replicate 4097 line) [] 0 0 2 0 0 0
+    -- an option, the verbs and a coordinate all wrong: 1; the coordinate: 4. Too many verbs, 2, are too many to compute over: `many-lines` of path
+    ∷ mesh (pen 3 0) (line ∷ []) (0x7fc00000 ∷ 0 ∷ []) 0 0 1 0 0 0
     ∷ mesh (pen 0 0) (begin ∷ endOpen ∷ []) (0 ∷ 0x7fc00000 ∷ []) 0 0 4 1 0 0
     -- (0,0), (100,0), (100,100), closed or open: Miter and Bevel
     ∷ mesh (pen 0 0) (begin ∷ line ∷ line ∷ endOpen ∷ []) (0 ∷ 0 ∷ 0x42c80000 ∷ 0 ∷ 0x42c80000 ∷ 0x42c80000 ∷ []) 6 4 0 0 6 4

@@ -42,12 +42,10 @@ slice-aggregate-answer-write c =
 array-share-prefix-triangles : tie.Need-array-share-prefix-triangles
 array-share-prefix-triangles c =
     let read = c .before .before .before .before .before .read-number-list in
-    rw (read .kept .1 .1 .0) (read .ensures)
+    rw (read .kept .1 .1 .1 .0) (read .ensures)
 
 slice-aggregate-answer-write-2 : tie.Need-slice-aggregate-answer-write-2
-slice-aggregate-answer-write-2 c =
-    let read = c .before .before .before .before .before .before .read-number-list in
-    sym (length-take-le (read .result .count) (read .last .1 .1 .0) (array-share-prefix-triangles (c .before)))
+slice-aggregate-answer-write-2 c = sym (length-take-le (c .before .before .before .before .before .before .read-number-list .result .count) _ (array-share-prefix-triangles (c .before)))
 
 answer-write-requires : tie.Need-answer-write-requires
 answer-write-requires c κs = search needs
