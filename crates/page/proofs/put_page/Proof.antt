@@ -11,7 +11,7 @@ put-refused-requires : tie.Need-put-refused-requires
 put-refused-requires c κs = tt
 
 returns : tie.Need-returns
-returns c = (long-refused (c .before .before .if1 .taken) (c .put-refused .ensures .0), c .put-refused .ensures .1)
+returns c = (long-refused (omega (arith, c .before .before .if1 .taken)) (c .put-refused .ensures .0), c .put-refused .ensures .1)
 
 slice-aggregate-read : tie.Need-slice-aggregate-read
 slice-aggregate-read c = refl
