@@ -1,10 +1,11 @@
-//! An edge and its side points (rule 4), and the test of refusal 5.
+//! An edge and its side points (rule 4), and how near these come on a side (W-207).
 
 use crate::endpoint::{NEGATIVE, POSITIVE};
 use crate::plane::{Point, Vector};
 
-/// 2^-40: offset points of an edge nearer than this, squared, are refused.
-const OFFSETS_NEAR: f32 = 1.0 / 1_099_511_627_776.0;
+/// 2^-40. Refusal 5, retired by W-207, was "an edge whose offset points on a side have f32 squared
+/// distance below 2^-40".
+pub const OFFSETS_NEAR: f32 = 1.0 / 1_099_511_627_776.0;
 
 #[derive(Clone, Copy, Debug)]
 pub struct Edge {
@@ -27,10 +28,10 @@ impl Edge {
         }
     }
 
-    /// Refusal 5: the offset points on a side have a squared distance below 2^-40.
-    pub fn offsets_too_near(&self) -> bool {
-        let near = |side: usize| (self.end[side] - self.start[side]).square_length() < OFFSETS_NEAR;
-        near(POSITIVE) || near(NEGATIVE)
+    /// The f32 squared distance of the offset points on the side where it is less.
+    pub fn offset_distance(&self) -> f32 {
+        let of = |side: usize| (self.end[side] - self.start[side]).square_length();
+        of(POSITIVE).min(of(NEGATIVE))
     }
 }
 
@@ -39,18 +40,19 @@ mod tests {
     use super::*;
     use crate::plane::point;
 
-    /// No accepted path brings such an edge; these stand outside the domain on purpose.
+    /// Edges between kept points are not so near; these stand outside the domain on purpose.
     #[test]
-    fn refusal_5_is_judged_on_the_offset_points() {
+    fn offset_points_so_near() {
         let edge = |length: f32, h: f32| Edge::new(point(0.0, 0.0), point(length, 0.0), h);
+        let so_near = |edge: Edge| edge.offset_distance() < OFFSETS_NEAR;
         let limit = 1.0 / 1_048_576.0;
-        assert!(!edge(limit, 1.0).offsets_too_near());
-        assert!(edge(limit * 0.999, 1.0).offsets_too_near());
+        assert!(!so_near(edge(limit, 1.0)));
+        assert!(so_near(edge(limit * 0.999, 1.0)));
         let far = Edge::new(point(32_768.0, 0.0), point(32_768.0, limit), 1.0);
-        assert!(!far.offsets_too_near());
+        assert!(!so_near(far));
         // Beside a wide offset the short edge is rounded away.
         let short = 1.0 / 8192.0;
         let swallowed = Edge::new(point(0.0, 0.0), point(short, short), 8192.0);
-        assert!(swallowed.offsets_too_near());
+        assert!(so_near(swallowed));
     }
 }

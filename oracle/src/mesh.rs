@@ -1,11 +1,11 @@
-//! The mesh call: path and options in, two lent lists filled, refusals 1 to 7 in their order.
+//! The mesh call: path and options in, two lent lists filled, refusals 1 to 4, 6 and 7 in their order.
+//! W-207 retired 5.
 
-use crate::edge::Edge;
 use crate::endpoint::LineJoin;
-use crate::outcome::{refuse_if, Outcome, Refusal};
-use crate::path::{Path, Run};
+use crate::outcome::{Outcome, Refusal};
+use crate::path::Path;
 use crate::routines::Routines;
-use crate::strip::{endpoints, write_run};
+use crate::strip::write_run;
 use crate::vertices::Mesh;
 
 /// Options as they come in.
@@ -60,31 +60,15 @@ impl Options {
     }
 }
 
-/// The whole mesh, or the first of refusals 1 to 5.
+/// The whole mesh, or the first of refusals 1 to 4.
 pub fn drawn<R: Routines>(path: Path, options: Options) -> Result<Mesh, Refusal> {
     let stroke = options.check()?;
     path.check()?;
-    let runs = path.runs(stroke.near);
-    check_edges(&runs, &stroke)?;
     let mut mesh = Mesh::default();
-    for run in &runs {
-        write_run::<R>(run, &stroke, &mut mesh);
+    for run in path.runs(stroke.near) {
+        write_run::<R>(&run, &stroke, &mut mesh);
     }
     Ok(mesh)
-}
-
-/// Refusal 5: edges are counted over the kept edges of all runs, closing ones included.
-fn check_edges(runs: &[Run], stroke: &Stroke) -> Result<(), Refusal> {
-    let mut place = 0;
-    for run in runs {
-        let ends = endpoints(run, stroke);
-        for pair in ends.windows(2).take(run.edges()) {
-            let edge = Edge::new(pair[0].position, pair[1].position, stroke.half_width);
-            refuse_if(edge.offsets_too_near(), 5, place)?;
-            place += 1;
-        }
-    }
-    Ok(())
 }
 
 /// The call. A refusal leaves both lists as they were; after 0 the places beyond those counted
@@ -114,41 +98,4 @@ pub fn mesh<R: Routines>(
         place.copy_from_slice(triangle);
     }
     Outcome::counted(0, counts)
-}
-
-#[cfg(test)]
-mod tests {
-    use super::*;
-    use crate::plane::point;
-
-    /// No accepted path keeps such points; these runs stand outside the domain on purpose.
-    #[test]
-    fn place_of_refusal_5() {
-        let stroke = Stroke {
-            half_width: 1.0,
-            limit: 4.0,
-            join: LineJoin::Bevel,
-            square: false,
-            clip: 0.0,
-            near: 1.0 / 16_384.0,
-        };
-        let run = |places: &[f32], closed| Run {
-            kept: places.iter().map(|&x| (0, point(x, 0.0))).collect(),
-            closed,
-            has_line: true,
-        };
-        let place = |runs: &[Run]| check_edges(runs, &stroke).map_err(|refusal| refusal.place);
-        let tiny = 1e-7;
-        assert_eq!(place(&[run(&[0.0, 5.0, tiny], false)]), Ok(()));
-        assert_eq!(place(&[run(&[0.0, 5.0, tiny], true)]), Err(2));
-        let first = run(&[0.0, 5.0, 9.0], true);
-        assert_eq!(
-            place(&[first.clone(), run(&[0.0], true), run(&[0.0, tiny], false)]),
-            Err(3)
-        );
-        assert_eq!(
-            place(&[first, run(&[0.0, 5.0, 5.000_000_5], false)]),
-            Err(4)
-        );
-    }
 }

@@ -14,7 +14,7 @@ mod texts;
 mod widths;
 
 pub use big::big;
-pub use rng::Rng;
+pub use rng::{ulps, Rng};
 pub use stl::{damaged, sound};
 
 use crate::case::Case;

@@ -1,14 +1,15 @@
 //! Facts of every generated mesh: counts from kept points and pairs, triangles of a ladder,
-//! exact room, lists untouched by a refusal.
+//! exact room, lists untouched by a refusal; offset points of kept edges that stay apart.
 
 use oracle::case::{Case, MeshCase};
+use oracle::edge::Edge;
 use oracle::endpoint::Points;
 use oracle::gen::{case, Kind, Rng};
 use oracle::line::{filled_floats, filled_numbers};
 use oracle::mesh::{drawn, mesh, Stroke};
 use oracle::outcome::Outcome;
 use oracle::path::{Path, Run};
-use oracle::strip::joints;
+use oracle::strip::{endpoints, joints};
 use oracle::vertices::Mesh;
 use oracle::Judge;
 
@@ -96,6 +97,27 @@ fn meshes_are_ladders() {
     assert!(accepted > 15_000);
 }
 
+/// W-207: 2^-20 is proved of the kept edges of every accepted path; 2^-40 was refused.
+#[test]
+fn offset_points_stay_apart() {
+    let mut edges = 0;
+    for case in generated(207, 40_000) {
+        let stroke = match (case.options.check(), path(&case).check()) {
+            (Ok(stroke), Ok(())) => stroke,
+            _ => continue,
+        };
+        for run in path(&case).runs(stroke.near) {
+            let ends = endpoints(&run, &stroke);
+            for pair in ends.windows(2).take(run.edges()) {
+                let edge = Edge::new(pair[0].position, pair[1].position, stroke.half_width);
+                assert!(edge.offset_distance() >= 1.0 / 1_048_576.0);
+                edges += 1;
+            }
+        }
+    }
+    assert!(edges > 100_000, "{}", edges);
+}
+
 /// The call on lists of those lengths; whatever it leaves alone must be as it was filled.
 fn call(case: &MeshCase, vertex_len: usize, triangle_len: usize) -> Outcome {
     let mut vertices = filled_floats(vertex_len);
@@ -139,7 +161,7 @@ fn every_refusal_is_generated() {
         let number = call(&case, case.vertex_len, case.triangle_len).number;
         seen[number as usize] += 1;
     }
-    // 5 has never been seen: no two kept points of an edge have offset points so near.
+    // 5 is retired.
     assert_eq!(seen[5], 0);
     for number in [0, 1, 2, 3, 4, 6, 7] {
         // Cases of refusal 2 are long, and rare.
