@@ -26,7 +26,7 @@ enum stipeharbor_number {
     STIPEHARBOR_TOO_MANY_VERBS = 2, /* more than STIPEHARBOR_VERB_LIMIT verbs */
     STIPEHARBOR_VERB = 3,           /* the verb at the place is unknown or misplaced; or, at the number of verbs, a run has no end or the coordinates are not two to each begin or line */
     STIPEHARBOR_COORDINATE = 4,     /* the coordinate at the place is not finite or too large */
-    STIPEHARBOR_SHORT_EDGE = 5,     /* the edge at the place, of those that are drawn, is too short to have two sides; proved never to be given */
+    /* 5 is retired: no path ever earned it. It is not given, and gets no other meaning. */
     STIPEHARBOR_VERTEX_ROOM = 6,    /* too few vertex places; the counts say how many are needed */
     STIPEHARBOR_TRIANGLE_ROOM = 7,  /* too few triangle places; the counts say how many are needed */
     STIPEHARBOR_TOO_LONG = 8,       /* the text has more than STIPEHARBOR_TEXT_LIMIT bytes */
@@ -72,8 +72,8 @@ enum stipeharbor_number {
  * each). Elements behind it keep what they have. Room is the list's length over 5 or over 3, rounded down.
  * A point whose squared distance to the last one kept is below `merge_range` squared, both in floats, is left out, and so are the last ones of a closed run that
  * are so near its first. The least range leaves out what is too near to be drawn; plans traced by hand want more.
- * Refusals 1 to 7; one leaves `vertices` and `triangles` as they were. With both lengths 0 the counts can be asked for: 6 carries them, or 0 where they are 0.
- * `answer` gets the place (of 3, 4 and 5, else 0), the number of vertices and the number of triangles (of 0, 6 and 7, else 0). */
+ * Refusals 1 to 4, 6 and 7; one leaves `vertices` and `triangles` as they were. With both lengths 0 the counts can be asked for: 6 carries them, or 0 where they are 0.
+ * `answer` gets the place (of 3 and 4, else 0), the number of vertices and the number of triangles (of 0, 6 and 7, else 0). */
 uint32_t stipeharbor_tessellate(
     const uint8_t *verbs, size_t verbs_len,
     const float *coords, size_t coords_len,

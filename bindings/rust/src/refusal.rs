@@ -24,11 +24,7 @@ pub enum Refusal {
         /// Which coordinate.
         place: usize,
     },
-    /// 5: the edge at the place, of those that are drawn, is too short to have two sides.
-    ShortEdge {
-        /// Which edge.
-        place: usize,
-    },
+    // 5 is retired: no path ever earned it.
     /// 6: too few vertex places.
     VertexRoom {
         /// The vertices that there are to be.
@@ -93,7 +89,6 @@ impl Refusal {
             2 => Refusal::TooManyVerbs,
             3 => Refusal::Verb { place },
             4 => Refusal::Coordinate { place },
-            5 => Refusal::ShortEdge { place },
             6 => Refusal::VertexRoom {
                 vertices,
                 triangles,
@@ -123,7 +118,6 @@ impl Refusal {
             Refusal::TooManyVerbs => 2,
             Refusal::Verb { .. } => 3,
             Refusal::Coordinate { .. } => 4,
-            Refusal::ShortEdge { .. } => 5,
             Refusal::VertexRoom { .. } => 6,
             Refusal::TriangleRoom { .. } => 7,
             Refusal::TooLong => 8,
@@ -144,7 +138,6 @@ impl Refusal {
         match self {
             Refusal::Verb { place }
             | Refusal::Coordinate { place }
-            | Refusal::ShortEdge { place }
             | Refusal::OutOfForm { place }
             | Refusal::TooLarge { place }
             | Refusal::Corner { place }

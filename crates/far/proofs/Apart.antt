@@ -1,5 +1,5 @@
 -- How far two points are apart, in grains. Of the squared distance 256 specks or more are ten grains in a component, since twice ten grains squared are
--- only 200; and two grains in a component are more than the 2 ^ -40 of refusal 5, which is less than a speck. Assumes nothing.
+-- only 200; and two grains in a component are four specks, 2 ^ -20, which is what is left, and far above the 2 ^ -40 that was refused. Assumes nothing.
 use mathlib.Core.Path.{_≡_, refl, ap}
 use mathlib.Core.Logic.{_⊎_, inl, inr}
 use Prim.Native.Nat.{ℕ, _+_, _*_, _^_, _≤_}
@@ -15,6 +15,7 @@ use Rattle.rounding.proofs.Values.{lt-value}
 use Rattle.rounding.proofs.Results.{Bounded}
 use Rattle.rounding.proofs.Differences.{Gap, distance}
 use Rattle.rounding.proofs.Squares.{squareLength, squared, lengthSquared, squareLength-value, le-squared, squared-le, le-lengthSquared, lengthSquared-le}
+use Rattle.far.specs.Short.{soNear, leastLeft}
 
 -- ---- two coordinates
 module _ {a b : Float} (G : Gap 32768 a b) where
@@ -65,18 +66,23 @@ module _ {a b c d : Float} (G : Gap 32768 a b) (H : Gap 32768 c d) where
           absurd
           (clash (distance G) (distance H) (squared-le 10 (distance G) (lit< tt) (close-distance G (le-of-lt (lt-of-not-le f)))) (squared-le 10 (distance H) (lit< tt) (close-distance H (le-of-lt (lt-of-not-le g)))) long)
 
--- ---- a component of two grains is enough
-short-limit : HasValue (ofBits binary32 0x2b800000) false (2 ^ 109) one
-unfolding ofBits one
-short-limit = (refl, refl)
+-- ---- bounds that two grains in a component reach: four specks or less
+pub record Reached (x : Float) : Type 0 where
+  pub size : ℕ
+  pub value : HasValue x false size one
+  pub most : size ≤ 4 * speck
 
-short-small : 2 ^ 109 ≤ 1 * speck
-unfolding speck
-short-small = lit≤ tt
+pub so-near-reached : Reached soNear
+unfolding ofBits one speck
+so-near-reached = record { size = 2 ^ 109; value = (refl, refl); most = lit≤ tt }
+
+pub least-left-reached : Reached leastLeft
+unfolding ofBits one speck
+least-left-reached = record { size = 2 ^ 129; value = (refl, refl); most = lit≤ tt }
 
 module _ {x y : Float} (X : Bounded x 131072) (Y : Bounded y 131072) where
-  pub two-grains : (2 * grain ≤ X .size) ⊎ (2 * grain ≤ Y .size) → lt (squareLength x y) (ofBits binary32 0x2b800000) ≡ false
-  two-grains l =
+  pub two-grains : (2 * grain ≤ X .size) ⊎ (2 * grain ≤ Y .size) → (bound : Float) → Reached bound → lt (squareLength x y) bound ≡ false
+  two-grains l bound b =
       let g = X .size in
       let h = Y .size in
       let four : 4 * speck ≤ squared g + squared h =
@@ -84,6 +90,6 @@ module _ {x y : Float} (X : Bounded x 131072) (Y : Bounded y 131072) where
         | inl i ↦ le-trans (le-squared 2 g (lit< tt) i) (le-add-right (squared g) (squared h))
         | inr i ↦ le-trans (le-squared 2 h (lit< tt) i) (le-add-left (squared h) (squared g))
       ] in
-      lt-value (squareLength x y) (ofBits binary32 0x2b800000) (lengthSquared g h) (2 ^ 109) one one-pos
-      (squareLength-value 17 (lit≤ tt) x y (X .s) (Y .s) g h (X .value) (X .within) (Y .value) (Y .within)) short-limit .1
-      (le-trans short-small (le-trans (mul-le-mul-right speck (lit≤ tt)) (le-lengthSquared g h 4 (lit< tt) four)))
+      lt-value (squareLength x y) bound (lengthSquared g h) (b .size) one one-pos
+      (squareLength-value 17 (lit≤ tt) x y (X .s) (Y .s) g h (X .value) (X .within) (Y .value) (Y .within)) (b .value) .1
+      (le-trans (b .most) (le-lengthSquared g h 4 (lit< tt) four))

@@ -4,40 +4,40 @@ use mathlib.Core.Path.{_≡_}
 use mathlib.Core.Logic.{_⊎_, inl, inr}
 use mathlib.Core.Bool.{Bool, false, _||_}
 use lib.Dec.{lit<}
-use lib.Ieee.{Float, binary32, add, sub, lt, ofBits}
+use lib.Ieee.{Float, binary32, add, sub, lt}
 use Rattle.plane.specs.Vector as vector
-use Rattle.plane.specs.declared.vector.Point.{Point}
 use Rattle.endpoint.specs.declared.Endpoint.{Endpoint}
 use Rattle.join.specs.Edge.{edgeOf, edgeSideOf}
-use Rattle.kept.specs.Kept.{nearOf}
-use Rattle.joints.specs.Leg.{legOf, shortOf}
-use Rattle.rounding.proofs.Results.{bounded-neg}
+use Rattle.kept.specs.Kept.{nearOf, near}
+use Rattle.joints.specs.Leg.{legOf}
+use Rattle.rounding.proofs.Results.{bounded-neg, Within}
 use Rattle.rounding.proofs.Differences.{Gap, gap}
 use Rattle.rounding.proofs.Squares.{squareLength, square-mirrored}
-use Rattle.far.proofs.Ranges.{Half, Inside, Limit}
-use Rattle.far.proofs.Apart.{Apart, not-near-apart, two-grains}
+use Rattle.far.specs.Short.{shortOf, NotShort, Inside}
+use Rattle.far.proofs.Ranges.{Limit, coordinate}
+use Rattle.far.proofs.Apart.{Apart, not-near-apart, Reached, two-grains}
 use Rattle.far.proofs.Offsets.{Offset, offset-x, offset-y}
 use Rattle.far.proofs.Moved.{moved}
 
 -- ---- two points: nearness, by the distance in a component
-module _ {p q : Point} (P : Inside p) (Q : Inside q) where
-  abbrev pub gap-x : Gap 32768 (p .x) (q .x)
-  gap-x = gap 32768 (p .x) (q .x) (lit< tt) (P .x) (Q .x)
+module _ {p q : Endpoint} (P : Inside p) (Q : Inside q) where
+  abbrev gap-x : Gap 32768 (p .position .x) (q .position .x)
+  gap-x = gap 32768 (p .position .x) (q .position .x) (lit< tt) (coordinate (p .position .x) (P .x)) (coordinate (q .position .x) (Q .x))
 
-  abbrev pub gap-y : Gap 32768 (p .y) (q .y)
-  gap-y = gap 32768 (p .y) (q .y) (lit< tt) (P .y) (Q .y)
+  abbrev gap-y : Gap 32768 (p .position .y) (q .position .y)
+  gap-y = gap 32768 (p .position .y) (q .position .y) (lit< tt) (coordinate (p .position .y) (P .y)) (coordinate (q .position .y) (Q .y))
 
-  pub near-apart : (limit : Float) → Limit limit → nearOf limit p q ≡ false → Apart gap-x ⊎ Apart gap-y
+  near-apart : (limit : Float) → Limit limit → near limit p q ≡ false → Apart gap-x ⊎ Apart gap-y
   unfolding nearOf vector.minusOf vector.squareLengthOf
   near-apart limit l e = not-near-apart gap-x gap-y limit (l .size) (l .value) (l .least) e
 
-  pub near-mutual : (limit : Float) → nearOf limit p q ≡ nearOf limit q p
+  pub near-mutual : (limit : Float) → near limit p q ≡ near limit q p
   unfolding nearOf vector.minusOf vector.squareLengthOf
   near-mutual limit = rw (square-mirrored (lit< tt) gap-x, square-mirrored (lit< tt) gap-y)
 
 -- ---- one side
-side : {a b c d o p : Float} (G : Gap 32768 a b) (H : Gap 32768 c d) → Apart G ⊎ Apart H → Offset o → Offset p
-    → lt (squareLength (sub binary32 (add binary32 b o) (add binary32 a o)) (sub binary32 (add binary32 d p) (add binary32 c p))) (ofBits binary32 0x2b800000) ≡ false
+side : {a b c d o p : Float} (G : Gap 32768 a b) (H : Gap 32768 c d) → Apart G ⊎ Apart H → Offset o → Offset p → (bound : Float) → Reached bound
+    → lt (squareLength (sub binary32 (add binary32 b o) (add binary32 a o)) (sub binary32 (add binary32 d p) (add binary32 c p))) bound ≡ false
 side G H far O P =
     let X = moved O G in
     let Y = moved P H in
@@ -47,13 +47,13 @@ side G H far O P =
 neither : (a b : Bool) → a ≡ false → b ≡ false → (a || b) ≡ false
 neither a b p q = rw (p, q)
 
-module _ (limit h start : Float) (a b : Endpoint) (least : Limit limit) (half : Half h) (from : Inside (a .position)) (to : Inside (b .position)) where
-  pub not-short : nearOf limit (a .position) (b .position) ≡ false → shortOf (legOf h start a b) ≡ false
+module _ (limit h start : Float) (a b : Endpoint) (least : Limit limit) (half : Within 8192 h) (from : Inside a) (to : Inside b) where
+  pub not-short : near limit a b ≡ false → (bound : Float) → Reached bound → NotShort bound (legOf h start a b)
   unfolding shortOf legOf edgeOf edgeSideOf vector.plusOf vector.minusOf vector.timesOf vector.dividedOf vector.turnedOf vector.squareLengthOf vector.lengthOf sub
-  not-short e =
+  not-short e bound r =
       let G = gap-x from to in
       let H = gap-y from to in
       let far = near-apart from to limit least e in
       let O = offset-x G H far h half in
       let P = offset-y G H far h half in
-      neither _ _ (side G H far O P) (side G H far (bounded-neg O) (bounded-neg P))
+      neither _ _ (side G H far O P bound r) (side G H far (bounded-neg O) (bounded-neg P) bound r)

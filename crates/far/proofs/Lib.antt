@@ -1,5 +1,6 @@
--- Why no accepted path earns refusal 5. `Path` has it for a whole path, `Course` for one run, `Edge` for one edge; `Ranges` is what the checks of a
--- call tell of its numbers.
+-- Why refusal 5 is retired. `Never` has it for any points inside the limits, `Path` for an accepted path, `Course` for one run, `Edge` for one edge;
+-- `Ranges` is what the limits tell of the numbers within them.
+pub mod Never
 pub mod Path
 pub mod Course
 pub mod Edge

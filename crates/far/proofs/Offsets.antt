@@ -13,17 +13,16 @@ use lib.Ieee.Positive.{num, den, den-pos}
 use Rattle.root.specs.Compute.{rootOf}
 use Rattle.rounding.proofs.Scales.{one, speck, one-pos, speck-pos}
 use Rattle.rounding.proofs.Values.{sign, finite-value, mul-round}
-use Rattle.rounding.proofs.Results.{whole, made, Bounded, made-bounded, bounded-neg}
+use Rattle.rounding.proofs.Results.{whole, made, Bounded, made-bounded, bounded-neg, Within}
 use Rattle.rounding.proofs.Differences.{Gap, distance}
 use Rattle.rounding.proofs.Squares.{squareLength, squared, lengthSquared, le-squared, le-lengthSquared}
 use Rattle.rounding.proofs.Roots.{over-length}
-use Rattle.far.proofs.Ranges.{Half}
 use Rattle.far.proofs.Apart.{Apart, apart-distance, distances-value}
 
 abbrev pub Offset : Float → Type 0
 Offset o = Bounded o 24576
 
-times : {t : Float} (h : Float) → Bounded t 3 → Half h → Offset (mul binary32 t h)
+times : {t : Float} (h : Float) → Bounded t 3 → Within 8192 h → Offset (mul binary32 t h)
 times {t} h u p =
     let s = unlike (u .s) (sign h) in
     let e = mul-round t h (u .s) (sign h) (u .size) one (num h) (den h) one-pos (den-pos h) (u .value) (finite-value h (p .0)) in
@@ -51,7 +50,7 @@ module _ {a b c d : Float} (G : Gap 32768 a b) (H : Gap 32768 c d) (far : Apart 
   direction : (z : Float) (s : Bool) (k : ℕ) → HasValue z s k one → squared k ≤ squared (distance G) + squared (distance H) → Bounded (div binary32 z length) 3
   direction = over-length (sub binary32 b a) (sub binary32 d c) (distance G) (distance H) some (distances-value G H)
 
-  module _ (h : Float) (half : Half h) where
+  module _ (h : Float) (half : Within 8192 h) where
     pub offset-x : Offset (mul binary32 (neg (div binary32 (sub binary32 d c) length)) h)
     offset-x = times h (bounded-neg (direction (sub binary32 d c) (H .r) (distance H) (H .difference .value) (le-add-left (squared (distance H)) (squared (distance G))))) half
 

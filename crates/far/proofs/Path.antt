@@ -1,5 +1,5 @@
--- An accepted path with accepted options has no short edge: refusal 5 is never earned. Each point of each run is inside the limits, so no run has a
--- short leg, and the path's edges are those of its runs. Assumes nothing.
+-- An accepted path with accepted options has no short edge. Each point of each run is inside the limits, so no run has a short leg, and the path's
+-- edges are those of its runs. Assumes nothing.
 use mathlib.Core.Path.{_≡_}
 use Prim.Native.Nat.{ℕ, suc, _+_, _<_}
 use mathlib.Core.Bool.{Bool, true, false}
@@ -20,46 +20,48 @@ use Rattle.options.specs.declared.Stroke.{Stroke}
 use Rattle.path.proofs.Laws.{within-at}
 use Rattle.kept.specs.Points.{endpointsOf}
 use Rattle.kept.specs.Kept.{keptPoints}
-use Rattle.joints.specs.Leg.{legsOf, firstShort}
-use Rattle.kept.proofs.All.{All, all-append, all-take, all-drop}
-use Rattle.runs.specs.Runs.{runsOf, meshEdges}
-use Rattle.far.proofs.Ranges.{Half, Limit, coordinate, half-width, near-limit}
-use Rattle.far.proofs.Course.{PointIn, NotShort, none-short, run-none}
+use Rattle.kept.specs.All.{All}
+use Rattle.kept.proofs.All.{all-append, all-take, all-drop}
+use Rattle.runs.specs.Runs.{runsOf}
+use Rattle.rounding.proofs.Results.{Within}
+use Rattle.far.specs.Short.{soNear, NotShort, legsOf, meshEdges, Inside}
+use Rattle.far.proofs.Ranges.{Limit, half-width, near-limit}
+use Rattle.far.proofs.Apart.{so-near-reached}
+use Rattle.far.proofs.Course.{run-none}
 
 -- ---- the points of a path
-points-in : (first : ℕ) (cs : List Float) → ((i : ℕ) → i < length cs → coordinateIn (getD cs i nan) ≡ true) → All PointIn (endpointsOf first cs)
+points-in : (first : ℕ) (cs : List Float) → ((i : ℕ) → i < length cs → coordinateIn (getD cs i nan) ≡ true) → All Inside (endpointsOf first cs)
 unfolding endpointsOf
 points-in first [] f = tt
 points-in first (x ∷ []) f = tt
 points-in first (x ∷ y ∷ cs) f =
-    (record { x = coordinate x (f 0 (omega arith)); y = coordinate y (f 1 (omega arith)) }, points-in (first + 1) cs (λ i h. f (suc (suc i)) (omega arith)))
+    (record { x = f 0 (omega arith); y = f 1 (omega arith) }, points-in (first + 1) cs (λ i h. f (suc (suc i)) (omega arith)))
 
 -- ---- its runs
 abbrev pub RunIn : Run Endpoint → Type 0
-RunIn r = All PointIn (r .points)
+RunIn r = All Inside (r .points)
 
-runs-in : (n : ℕ) (vs : List ℕ) (ps : List Endpoint) → All PointIn ps → All RunIn (runsFrom n vs ps)
+runs-in : (n : ℕ) (vs : List ℕ) (ps : List Endpoint) → All Inside ps → All RunIn (runsFrom n vs ps)
 unfolding runsFrom
 runs-in n [] ps i = tt
-runs-in n (v ∷ vs) ps i = go (names v) (runs-in (n + 1) vs ps i) (runs-in 0 vs (drop n ps) (all-drop PointIn n ps i))
+runs-in n (v ∷ vs) ps i = go (names v) (runs-in (n + 1) vs ps i) (runs-in 0 vs (drop n ps) (all-drop Inside n ps i))
   where
     go : (t : Bool) → All RunIn (runsFrom (n + 1) vs ps) → All RunIn (runsFrom 0 vs (drop n ps))
         → All RunIn (pick t (runsFrom (n + 1) vs ps) (record { closed = eqb v endClosed; points = take n ps } ∷ runsFrom 0 vs (drop n ps)))
     go true a b = a
-    go false a b = (all-take PointIn n ps i, b)
+    go false a b = (all-take Inside n ps i, b)
 
 pub path-in : (verbs : List ℕ) (coords : List Float) → Sound verbs coords → All RunIn (runsOf verbs coords)
 path-in verbs coords s = runs-in 0 verbs (endpointsOf 0 coords) (points-in 0 coords (within-at coords (s .within)))
 
 -- ---- their edges
-edges-none : (o : Stroke) → Limit (o .near) → Half (o .«half_width») → (rs : List (Run Endpoint)) → All RunIn rs → All NotShort (meshEdges o rs)
+edges-none : (o : Stroke) → Limit (o .near) → Within 8192 (o .«half_width») → (rs : List (Run Endpoint)) → All RunIn rs → All (NotShort soNear) (meshEdges o rs)
 unfolding meshEdges
 edges-none o l h [] i = tt
 edges-none o l h (r ∷ rs) i =
-    all-append NotShort (legsOf (r .closed) (o .«half_width») (keptPoints (o .near) (r .closed) (r .points))) (meshEdges o rs)
-    (run-none (o .near) (o .«half_width») l h (r .closed) (r .points) (i .0)) (edges-none o l h rs (i .1))
+    all-append (NotShort soNear) (legsOf (r .closed) (o .«half_width») (keptPoints (o .near) (r .closed) (r .points))) (meshEdges o rs)
+    (run-none (o .near) (o .«half_width») l h soNear so-near-reached (r .closed) (r .points) (i .0)) (edges-none o l h rs (i .1))
 
--- ---- "5: an edge whose offset points on a side have f32 squared distance below 2^-40": there is none
 pub no-short : (options : Options) (o : Stroke) (verbs : List ℕ) (coords : List Float) → strokeOf options ≡ accepting o → Sound verbs coords
-    → firstShort (meshEdges o (runsOf verbs coords)) ≡ length (meshEdges o (runsOf verbs coords))
-no-short options o verbs coords e s = none-short (meshEdges o (runsOf verbs coords)) (edges-none o (near-limit options o e) (half-width options o e) (runsOf verbs coords) (path-in verbs coords s))
+    → All (NotShort soNear) (meshEdges o (runsOf verbs coords))
+no-short options o verbs coords e s = edges-none o (near-limit options o e) (half-width options o e) (runsOf verbs coords) (path-in verbs coords s)

@@ -1,17 +1,19 @@
--- What the checks of a call tell of its numbers: an accepted coordinate is finite and at most 32,768 in size, the half width of accepted options is
--- finite and at most 8,192, and their merge range squared at least 2 ^ -14. Assumes nothing.
+-- What the limits tell of the numbers within them: a coordinate is finite and at most 32,768 in size, a half width finite and at most 8,192, and a merge
+-- range squared at least 2 ^ -14; and that accepted options have such a half width and such a range. Assumes nothing.
 use mathlib.Core.Path.{_≡_, refl, sym, ap, subst}
 use Prim.Native.Nat.{ℕ, _*_, _≤_, _<_}
 use native.Mathlib.Nat.{le-trans, le-of-eq, le-of-lt, mul-le-mul, mul-le-mul-right, mul-pos}
 use native.Mathlib.Omega.{arith}
 use mathlib.Core.Bool.{Bool, true, false, _&&_, _||_, false≢true}
+use lib.IntN.{ℤ, pos}
 use lib.Dec.{T, ltb, eqb, ltb→lt, eqb→eq, lit<}
 use lib.Ieee.{Float, nan, inf, fin, binary32, up, down, unlike, neg, mul, lt, eq, le, ofBits}
 use lib.Ieee.Fits.{and-l, and-r}
+use lib.Ieee.Scale.{finite}
 use lib.Ieee.Exact.{HasValue}
 use lib.Ieee.Positive.{num, den, den-pos, between, positive-finite, le→cross}
 use Rattle.plane.specs.Normal.{pick}
-use Rattle.plane.specs.declared.vector.Point.{Point}
+use Rattle.plane.specs.F32.{sizeAtMost}
 use Rattle.path.specs.Coordinates.{coordinateIn}
 use Rattle.options.specs.Options.{within, widthIn, limitIn, mergeIn, joinIn, capIn, inRange, preparedOf, accepting, strokeOf}
 use Rattle.options.specs.declared.Options.{Options}
@@ -21,14 +23,7 @@ use Rattle.rounding.proofs.Rounding.{rounded}
 use Rattle.rounding.proofs.Scales.{one, speck, le-rounded-specks}
 use Rattle.rounding.proofs.Values.{sign, finite-value, mul-round}
 use Rattle.rounding.proofs.Results.{whole, Made, made, made-bounded, Within, bounded-within}
-
--- both components finite, and at most 32,768 in size
-pub record Inside (p : Point) : Type 0 where
-  pub x : Within 32768 (p .x)
-  pub y : Within 32768 (p .y)
-
-abbrev pub Half : Float → Type 0
-Half h = Within 8192 h
+use Rattle.far.specs.Short.{Half, Range}
 
 -- points whose squared distance is not below it are far enough apart: 256 specks, 2 ^ -14, or more
 pub record Limit (x : Float) : Type 0 where
@@ -40,32 +35,43 @@ told : (t : Bool) → t ≡ true → T t
 told true e = tt
 told false e = absurd (false≢true e)
 
--- ---- a coordinate, on either side of zero
+-- ---- what is at most n * 2 ^ g in size, on either side of zero
 less-or-equal : (a b : ℕ) (x y : Bool) → (T x → a < b) → (T y → a ≡ b) → T (x || (y && true)) → a ≤ b
 less-or-equal a b true y h k t = le-of-lt (h tt)
 less-or-equal a b false true h k t = le-of-eq (k tt)
 less-or-equal a b false false h k t = absurd t
 
-at-most : (x y : ℕ) → x * 1 ≤ 1 * 32768 * y → x ≤ 32768 * y
-at-most x y h = omega arith
+sized : (n : ℕ) (g : ℤ) (x : Float) → sizeAtMost x (fin false n g) ≡ true → T (finite x) × (num x * down g ≤ n * up g * den x)
+unfolding neg lt eq le
+sized n g nan e = absurd (false≢true e)
+sized n g (inf true) e = absurd (false≢true e)
+sized n g (inf false) e = absurd (false≢true e)
+sized n g (fin true m d) e =
+    let a = m * up d * down g in
+    let b = n * up g * down d in
+    let t = and-l (le (fin true n g) (fin true m d)) (le (fin true m d) (fin false n g)) (told _ e) in
+    (tt, less-or-equal a b (ltb a b) (eqb b a) (ltb→lt a b) (λ i. sym (eqb→eq b a i)) t)
+sized n g (fin false m d) e =
+    let a = m * up d * down g in
+    let b = n * up g * down d in
+    let t = and-r (le (fin true n g) (fin false m d)) (le (fin false m d) (fin false n g)) (told _ e) in
+    (tt, less-or-equal a b (ltb a b) (eqb a b) (ltb→lt a b) (eqb→eq a b) t)
 
 pub coordinate : (x : Float) → coordinateIn x ≡ true → Within 32768 x
-unfolding coordinateIn neg lt eq le ofBits
-coordinate nan e = absurd (false≢true e)
-coordinate (inf true) e = absurd (false≢true e)
-coordinate (inf false) e = absurd (false≢true e)
-coordinate (fin true m d) e =
-    let a = m * up d * 1 in
-    let b = 1 * 32768 * down d in
-    let t = and-l (le (neg (ofBits binary32 0x47000000)) (fin true m d)) (le (fin true m d) (ofBits binary32 0x47000000)) (told _ e) in
-    (tt, at-most (m * up d) (down d) (less-or-equal a b (ltb a b) (eqb b a) (ltb→lt a b) (λ i. sym (eqb→eq b a i)) t))
-coordinate (fin false m d) e =
-    let a = m * up d * 1 in
-    let b = 1 * 32768 * down d in
-    let t = and-r (le (neg (ofBits binary32 0x47000000)) (fin false m d)) (le (fin false m d) (ofBits binary32 0x47000000)) (told _ e) in
-    (tt, at-most (m * up d) (down d) (less-or-equal a b (ltb a b) (eqb a b) (ltb→lt a b) (eqb→eq a b) t))
+unfolding coordinateIn ofBits
+coordinate x e = let s = sized 1 (pos 15) x e in (s .0, plain (num x) (den x) (s .1))
+  where
+    plain : (x y : ℕ) → x * 1 ≤ 1 * 32768 * y → x ≤ 32768 * y
+    plain x y h = omega arith
 
--- ---- the half width
+pub half : (h : Float) → Half h → Within 8192 h
+unfolding ofBits
+half h e = let s = sized 1 (pos 13) h e in (s .0, plain (num h) (den h) (s .1))
+  where
+    plain : (x y : ℕ) → x * 1 ≤ 1 * 8192 * y → x ≤ 8192 * y
+    plain x y h = omega arith
+
+-- ---- half of a width
 width-bound : (w : Float) → T (widthIn w) → Within 16384 w
 unfolding within ofBits
 width-bound w t =
@@ -81,7 +87,7 @@ half-value : HasValue (ofBits binary32 0x3f000000) false 1 2
 unfolding ofBits
 half-value = (refl, refl)
 
-halved : (w : Float) → Within 16384 w → Half (mul binary32 w (ofBits binary32 0x3f000000))
+halved : (w : Float) → Within 16384 w → Within 8192 (mul binary32 w (ofBits binary32 0x3f000000))
 halved w p =
     let h = ofBits binary32 0x3f000000 in
     let z = mul binary32 w h in
@@ -139,6 +145,9 @@ squared r b =
     large : (x y : ℕ) → x ≤ 16384 * y → 256 * speck * x ≤ y * one
     large x y h = omega (arith, mul-le-mul-right speck h, ap (λ (z : ℕ). y * z) one-specks)
 
+pub range-limit : (r : Float) → Range r → Limit (mul binary32 r r)
+range-limit r e = squared r (merge-bounds r (told (mergeIn r) e))
+
 -- ---- accepted options
 module _ (o : Options) (e : inRange o ≡ true) where
   abbrev floats : Bool
@@ -166,10 +175,10 @@ prepared-half : (o : Options) → preparedOf o .«half_width» ≡ mul binary32 
 unfolding preparedOf
 prepared-half o = refl
 
-pub half-width : (options : Options) (o : Stroke) → strokeOf options ≡ accepting o → Half (o .«half_width»)
+pub half-width : (options : Options) (o : Stroke) → strokeOf options ≡ accepting o → Within 8192 (o .«half_width»)
 half-width options o e =
     let a = accepted options o e in
-    subst (λ (s : Stroke). Half (s .«half_width»)) (a .1) (subst Half (sym (prepared-half options)) (halved (options .width) (width-bound (options .width) (width-in options (a .0)))))
+    subst (λ (s : Stroke). Within 8192 (s .«half_width»)) (a .1) (subst (Within 8192) (sym (prepared-half options)) (halved (options .width) (width-bound (options .width) (width-in options (a .0)))))
 
 prepared-near : (o : Options) → preparedOf o .near ≡ mul binary32 (o .«merge_range») (o .«merge_range»)
 unfolding preparedOf

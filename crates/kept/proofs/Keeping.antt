@@ -5,7 +5,7 @@ use mathlib.Core.Bool.{Bool, true, false, _&&_, cond, true≢false}
 use mathlib.Core.List.{List, [], _∷_, _++_, append-nil}
 use Rattle.endpoint.specs.declared.Endpoint.{Endpoint}
 use Rattle.kept.specs.Kept.{near, keptBehind, allNear, trimmed, keptPoints}
-use Rattle.kept.proofs.All.{All}
+use Rattle.kept.specs.All.{All}
 use lib.Ieee.{Float}
 
 module _ (limit : Float) where

@@ -1,5 +1,5 @@
 -- For the layers above: `Indexed` (endpoints by their index), `Looks` (what the looks say of the kept points), `Lengths` (how many are kept), `Keeping` (what
--- kept points have) and `All` (its words for lists); `Further` is below these.
+-- kept points have) and `All` (laws of its word for lists); `Further` is below these.
 pub mod Indexed
 pub mod Looks
 pub mod Lengths

@@ -1,5 +1,6 @@
 -- Rule 1: `Points` reads the endpoints of a run off its coordinates, `Kept` says which are kept, `Looks` what the looks for the second and the last of
--- them find.
+-- them find. `All` is a word for lists.
 pub mod Points
 pub mod Kept
 pub mod Looks
+pub mod All

@@ -18,15 +18,13 @@ use Rattle.path.proofs.Laws.{sound}
 use Rattle.path.proofs.Runs.{formed, runs-verbs, runs-points}
 use Rattle.kept.specs.Points.{endpointsOf}
 use Rattle.kept.proofs.Indexed.{points-length}
-use Rattle.joints.specs.Leg.{firstShort}
 use Rattle.pieces.specs.Piece.{Lists, lent, flatV, flatT}
 use Rattle.pieces.proofs.Pieces.{length-flatV, length-flatT}
 use Rattle.run.specs.Run.{shapeCount}
 use Rattle.run.proofs.Facts.{run-covers, run-counts}
-use Rattle.runs.specs.Runs.{runsOf, drawnOf, meshVertices, meshCount, meshTriangles, meshEdges}
+use Rattle.runs.specs.Runs.{runsOf, drawnOf, meshVertices, meshCount, meshTriangles}
 use Rattle.runs.proofs.Runs.{length-vertices}
-use Rattle.far.proofs.Path.{no-short}
-use Rattle.mesh.specs.Answer.{withCounts, judgedOf}
+use Rattle.mesh.specs.Answer.{withCounts}
 use Rattle.mesh.specs.Demand3.{EarnsNone, AllStand, Written, Roomed, Demand3}
 use Rattle.mesh.specs.Mesh.{Outcome, refused, acceptedOf, strokedOf, outcomeOf}
 
@@ -37,10 +35,7 @@ all-stand o base (r ∷ rs) =
     (record { counts = run-counts o (r .closed) base (r .points); covers = run-covers o (r .closed) base (r .points) }, all-stand o (base + shapeCount (drawnOf o r)) rs)
 
 -- ---- rooms, of an accepted path
-module _ (o : Stroke) (rs : List (Run Endpoint)) (l : Lists) (e : firstShort (meshEdges o rs) ≡ length (meshEdges o rs)) where
-  none-short : length (meshEdges o rs) ≤ firstShort (meshEdges o rs)
-  none-short = omega (arith, e)
-
+module _ (o : Stroke) (rs : List (Run Endpoint)) (l : Lists) where
   abbrev n : ℕ
   n = meshCount o rs
 
@@ -48,20 +43,20 @@ module _ (o : Stroke) (rs : List (Run Endpoint)) (l : Lists) (e : firstShort (me
   m = length (meshTriangles o 0 rs)
 
   no-vertices : length (l .vertices) < 5 * n → acceptedOf l o rs ≡ refused l (withCounts (numberOf vertexRoom) n m)
-  unfolding acceptedOf judgedOf
-  no-vertices h = rw (le-ltb _ _ none-short, lt-ltb (length (l .vertices) / 5) n (omega arith))
+  unfolding acceptedOf
+  no-vertices h = rw (lt-ltb (length (l .vertices) / 5) n (omega arith))
 
   no-triangles : 5 * n ≤ length (l .vertices) → length (l .triangles) < 3 * m → acceptedOf l o rs ≡ refused l (withCounts (numberOf triangleRoom) n m)
-  unfolding acceptedOf judgedOf
-  no-triangles h g = rw (le-ltb _ _ none-short, le-ltb (length (l .vertices) / 5) n (omega arith), lt-ltb (length (l .triangles) / 3) m (omega arith))
+  unfolding acceptedOf
+  no-triangles h g = rw (le-ltb (length (l .vertices) / 5) n (omega arith), lt-ltb (length (l .triangles) / 3) m (omega arith))
 
   abbrev whole : Outcome
   whole = record { answer = withCounts (numberOf accepted) n m; lists = lent (over (flatV (meshVertices o rs)) (l .vertices)) (over (flatT (meshTriangles o 0 rs)) (l .triangles)) }
 
   module _ (h : 5 * n ≤ length (l .vertices)) (g : 3 * m ≤ length (l .triangles)) where
     is-whole : acceptedOf l o rs ≡ whole
-    unfolding acceptedOf judgedOf
-    is-whole = rw (le-ltb _ _ none-short, le-ltb (length (l .vertices) / 5) n (omega arith), le-ltb (length (l .triangles) / 3) m (omega arith))
+    unfolding acceptedOf
+    is-whole = rw (le-ltb (length (l .vertices) / 5) n (omega arith), le-ltb (length (l .triangles) / 3) m (omega arith))
 
     all-written : Written o rs l whole
     all-written =
@@ -89,5 +84,5 @@ demand-3 verbs coords options o e l =
       verbs-are = runs-verbs verbs f (endpointsOf 0 coords) (omega (arith, s .paired));
       points-are = runs-points verbs f (endpointsOf 0 coords) (omega (arith, s .paired));
       each = all-stand o 0 (runsOf verbs coords);
-      rooms = rw (e .within, e .accepted) (rooms-decide o (runsOf verbs coords) l (no-short options o verbs coords (e .within) s));
+      rooms = rw (e .within, e .accepted) (rooms-decide o (runsOf verbs coords) l);
     }

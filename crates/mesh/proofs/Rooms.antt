@@ -25,15 +25,13 @@ use Rattle.options.specs.declared.Stroke.{Stroke}
 use Rattle.path.proofs.Laws.{count-le}
 use Rattle.kept.specs.Points.{endpointsOf}
 use Rattle.kept.proofs.Indexed.{points-length}
-use Rattle.joints.specs.Leg.{firstShort}
 use Rattle.runs.specs.Cursor.{undrawn}
 use Rattle.runs.specs.Passes.{Paired}
-use Rattle.runs.specs.Runs.{runsOf, meshVertices, meshCount, meshTriangles, meshPiece, meshEdges, meshCounts}
+use Rattle.runs.specs.Runs.{runsOf, meshVertices, meshCount, meshTriangles, meshPiece, meshCounts}
 use Rattle.runs.proofs.Runs.{length-vertices, Bounded, runs-bounded}
-use Rattle.far.proofs.Path.{no-short}
-use Rattle.mesh.specs.Answer.{withCounts, meshAnswerOf, isMesh, roomedOf, judgedOf, Plenty}
+use Rattle.mesh.specs.Answer.{withCounts, meshAnswerOf, isMesh, roomedOf, Plenty}
 use Rattle.mesh.specs.Mesh.{Outcome, refused, roomFor, acceptedOf, onceAccepted}
-use Rattle.mesh.specs.Parts.{Prepared, Counted}
+use Rattle.mesh.specs.Parts.{Counted}
 use Rattle.mesh.specs.declared.answer.MeshAnswer.{MeshAnswer}
 use Rattle.mesh.specs.declared.answer.Meshed.the-variants.{Mesh, Refused}
 
@@ -102,17 +100,9 @@ roomed-room n m nv nt e = go (ltb nv n) refl (ltb nt m) refl e
     go false p true q f = absurd (false≢true f)
     go false p false q f = (ltb-false nv n p, ltb-false nt m q)
 
-module _ (o : Stroke) (vs : List ℕ) (cs : List Float) (s : Sound vs cs) (p : Prepared o) (l : Lists) where
+module _ (o : Stroke) (vs : List ℕ) (cs : List Float) (s : Sound vs cs) (l : Lists) where
   abbrev outcome : Outcome
   outcome = acceptedOf l o (runsOf vs cs)
-
-  -- no path earns refusal 5
-  room-is : roomFor l o (runsOf vs cs) ≡ roomedOf (meshCount o (runsOf vs cs)) (length (meshTriangles o 0 (runsOf vs cs))) (length (l .vertices) / 5) (length (l .triangles) / 3)
-  unfolding judgedOf
-  room-is =
-      let e = no-short (p .options) o vs cs (p .is) s in
-      let h : length (meshEdges o (runsOf vs cs)) ≤ firstShort (meshEdges o (runsOf vs cs)) = omega (arith, e) in
-      rw (le-ltb _ _ h)
 
   -- ---- with plenty of room
   module _ (q : Plenty (record { vertices = length (l .vertices) / 5; triangles = length (l .triangles) / 3 }) (length cs)) where
@@ -130,7 +120,7 @@ module _ (o : Stroke) (vs : List ℕ) (cs : List Float) (s : Sound vs cs) (p : P
     unfolding acceptedOf
     plenty-drawn {l'} {k} e =
         let c = counts-are o (runsOf vs cs) k (e .place) in
-        rw (c .0, c .1, room-is, le-ltb _ _ v-room, le-ltb _ _ t-room, drawn-is o (runsOf vs cs) e)
+        rw (c .0, c .1, le-ltb _ _ v-room, le-ltb _ _ t-room, drawn-is o (runsOf vs cs) e)
 
   -- ---- counted first: c is what it needs, and a the answer
   module _ {c : Place} {l1 : Lists} (k : Counted o (runsOf vs cs) l l1 c) (a : MeshAnswer) (j : a ≡ roomedOf (c .vertices) (c .triangles) (length (l .vertices) / 5) (length (l .triangles) / 3)) where
@@ -138,7 +128,7 @@ module _ (o : Stroke) (vs : List ℕ) (cs : List Float) (s : Sound vs cs) (p : P
     count = counts-are o (runsOf vs cs) c (k .place)
 
     answer-is : a ≡ roomFor l o (runsOf vs cs)
-    answer-is = j ∙ rw (count .0, count .1) (sym room-is)
+    answer-is = j ∙ rw (count .0, count .1)
 
     pub mesh-fits : isMesh a ≡ true → Fits true undrawn (meshPiece o undrawn (runsOf vs cs)) l1
     mesh-fits e =

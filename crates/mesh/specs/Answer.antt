@@ -2,10 +2,9 @@
 use Prim.Native.Nat.{ℕ, _*_, _≤_}
 use mathlib.Core.Bool.{Bool, cond}
 use lib.Dec.{ltb, eqb}
-use Rattle.refusals.specs.Numbers.{numberOf, verdictOf, accepted, shortEdge, vertexRoom, triangleRoom}
-use Rattle.runs.specs.Runs.{Tally}
+use Rattle.refusals.specs.Numbers.{numberOf, verdictOf, accepted, vertexRoom, triangleRoom}
 use Rattle.mesh.specs.declared.answer.Meshed.{Meshed}
-use Rattle.mesh.specs.declared.answer.Meshed.the-variants.{Mesh, Refused, ShortEdge, VertexRoom, TriangleRoom}
+use Rattle.mesh.specs.declared.answer.Meshed.the-variants.{Mesh, Refused, VertexRoom, TriangleRoom}
 use Rattle.mesh.specs.declared.answer.MeshAnswer.{MeshAnswer}
 use Rattle.mesh.specs.declared.answer.Rooms.{Rooms}
 
@@ -20,7 +19,6 @@ withPlace number place = record { number = number; place = place; vertices = 0; 
 abbrev pub meshAnswerOf : Meshed → MeshAnswer
 meshAnswerOf (Mesh n m) = withCounts (numberOf accepted) n m
 meshAnswerOf (Refused r) = let a = verdictOf r in withPlace (a .number) (a .place)
-meshAnswerOf (ShortEdge i) = withPlace (numberOf shortEdge) i
 meshAnswerOf (VertexRoom n m) = withCounts (numberOf vertexRoom) n m
 meshAnswerOf (TriangleRoom n m) = withCounts (numberOf triangleRoom) n m
 
@@ -33,11 +31,6 @@ abbrev pub roomedOf : ℕ → ℕ → ℕ → ℕ → MeshAnswer
 roomedOf n m vertexPlaces trianglePlaces =
     cond (ltb vertexPlaces n) (withCounts (numberOf vertexRoom) n m)
     (cond (ltb trianglePlaces m) (withCounts (numberOf triangleRoom) n m) (withCounts (numberOf accepted) n m))
-
--- Refusals 5, 6 and 7, in their order, for an accepted path: a short edge, or too little room
-unfoldable pub judgedOf : Tally → ℕ → ℕ → MeshAnswer
-judgedOf c vertexPlaces trianglePlaces =
-    cond (ltb (c .short) (c .legs)) (withPlace (numberOf shortEdge) (c .short)) (roomedOf (c .vertices) (c .triangles) vertexPlaces trianglePlaces)
 
 -- Room for the most that so many coordinates can need, two of them to a point (`runs-bounded` of runs)
 pub record Plenty (r : Rooms) (coords : ℕ) : Type 0 where

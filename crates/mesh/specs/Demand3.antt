@@ -1,5 +1,5 @@
--- Demand 3, in the mission's words, "for every path that earns none of refusals 1 to 5": none of 1 to 4, since 5 is earned by no such path (`no-short` of
--- crates/far). That it holds is proofs/Demand3.antt. Assumes nothing.
+-- Demand 3, in the mission's words, and W-207's: it "speaks of refusals 1 to 4", for every path that earns none of them. That it holds is
+-- proofs/Demand3.antt. Assumes nothing.
 use Prim.Native.Nat.{ℕ, _+_, _*_, _≤_, _<_}
 use mathlib.Core.Path.{_≡_}
 use mathlib.Core.List.{List, [], _∷_}

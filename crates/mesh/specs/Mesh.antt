@@ -14,8 +14,8 @@ use Rattle.path.specs.Runs.{Run}
 use Rattle.options.specs.declared.Options.{Options}
 use Rattle.options.specs.declared.Stroke.{Stroke}
 use Rattle.pieces.specs.Piece.{Lists, lent, flatV, flatT}
-use Rattle.runs.specs.Runs.{runsOf, meshVertices, meshTriangles, meshCounts}
-use Rattle.mesh.specs.Answer.{meshAnswerOf, withPlace, isMesh, judgedOf}
+use Rattle.runs.specs.Runs.{runsOf, meshVertices, meshCount, meshTriangles}
+use Rattle.mesh.specs.Answer.{meshAnswerOf, withPlace, isMesh, roomedOf}
 use Rattle.mesh.specs.declared.answer.Meshed.{Meshed}
 use Rattle.mesh.specs.declared.answer.MeshAnswer.{MeshAnswer}
 
@@ -36,7 +36,7 @@ module _ (l : Lists) where
 
   -- "Room is the list's length over 5 or 3, rounded down."
   abbrev pub roomFor : Stroke → List (Run Endpoint) → MeshAnswer
-  roomFor o rs = judgedOf (meshCounts o rs) (length (l .vertices) / 5) (length (l .triangles) / 3)
+  roomFor o rs = roomedOf (meshCount o rs) (length (meshTriangles o 0 rs)) (length (l .vertices) / 5) (length (l .triangles) / 3)
 
   -- "After 0, list places beyond those counted keep their contents."
   abbrev pub drawn : Stroke → List (Run Endpoint) → Outcome

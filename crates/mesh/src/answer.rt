@@ -2,7 +2,6 @@
 use pieces::Place;
 use refusals::ACCEPTED;
 use refusals::Refusal;
-use refusals::SHORT_EDGE;
 use refusals::TRIANGLE_ROOM;
 use refusals::VERTEX_ROOM;
 use refusals::verdict_of;
@@ -15,8 +14,6 @@ pub enum Meshed {
     Mesh(usize, usize),
     // Refusals 1 to 4.
     Refused(Refusal),
-    // Refusal 5, at the first edge that is too short.
-    ShortEdge(usize),
     // Refusal 6: too few vertex places.
     VertexRoom(usize, usize),
     // Refusal 7: too few triangle places.
@@ -44,7 +41,7 @@ pub fn is_plenty(r: Rooms, coords: usize) -> bool
     coords <= r.vertices / 2 && coords <= r.triangles / 2
 }
 
-// Refusals 6 and 7, by what a path needs. No path earns refusal 5.
+// Refusals 6 and 7, by what a path needs.
 pub fn judged(d: Place, r: Rooms) -> Meshed
     ensures { λ a. ⌜ meshAnswerOf a ≡ roomedOf (d .vertices) (d .triangles) (r .vertices) (r .triangles) ⌝ }
 {
@@ -77,7 +74,6 @@ pub fn mesh_answer_of(answer: Meshed) -> MeshAnswer
             let verdict = verdict_of(r);
             with_place(verdict.number, verdict.place)
         }
-        Meshed::ShortEdge(place) => with_place(SHORT_EDGE, place),
         Meshed::VertexRoom(n, m) => with_counts(VERTEX_ROOM, n, m),
         Meshed::TriangleRoom(n, m) => with_counts(TRIANGLE_ROOM, n, m),
     }

@@ -21,7 +21,7 @@ ghost use Rattle.pieces.specs.Piece.{lent};
 ghost use Rattle.path.specs.Path.{Sound};
 ghost use Rattle.runs.specs.Runs.{runsOf};
 ghost use Rattle.mesh.specs.Mesh.{answered, acceptedOf, strokedOf, outcomeOf};
-ghost use Rattle.mesh.specs.Parts.{Prepared, Counted};
+ghost use Rattle.mesh.specs.Parts.{Counted};
 
 // What an accepted path needs, counted by a pass that is lent no places.
 fn count_accepted(
@@ -55,7 +55,6 @@ fn mesh_accepted(
     vertices: &mut [f32],
     triangles: &mut [Index],
 ) -> Meshed
-    requires { ⌜ Prepared stroke ⌝ }
     requires { ⌜ Sound (now verbs) (now coords) ⌝ }
     ensures { λ r. ⌜ answered r (now (vertices .exit)) (now (triangles .exit)) ≡ acceptedOf (lent (now (vertices .entry)) (now (triangles .entry))) stroke (runsOf (now (verbs .entry)) (now (coords .entry))) ⌝ }
 {
@@ -86,7 +85,6 @@ fn mesh_stroked(
     vertices: &mut [f32],
     triangles: &mut [Index],
 ) -> Meshed
-    requires { ⌜ Prepared stroke ⌝ }
     ensures { λ r. ⌜ answered r (now (vertices .exit)) (now (triangles .exit)) ≡ strokedOf (lent (now (vertices .entry)) (now (triangles .entry))) (now (verbs .entry)) (now (coords .entry)) stroke ⌝ }
 {
     match check_path(verbs, coords) {

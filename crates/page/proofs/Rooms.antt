@@ -15,11 +15,11 @@ use Rattle.path.specs.Runs.{Run}
 use Rattle.path.specs.Limits.{verbLimit}
 use Rattle.options.specs.declared.Options.{Options}
 use Rattle.options.specs.declared.Stroke.{Stroke}
-use Rattle.runs.specs.Runs.{runsOf, meshCounts}
+use Rattle.runs.specs.Runs.{runsOf, meshCount, meshTriangles}
 use Rattle.reader.specs.Outcome as reader
 use Rattle.reader.specs.Reads.{Reads, too-long, out-of-form, too-large, no-room, path, verbsIn, coordsIn}
 use Rattle.pieces.specs.Piece.{Lists}
-use Rattle.mesh.specs.Answer.{isMesh, withCounts, withPlace, judgedOf}
+use Rattle.mesh.specs.Answer.{isMesh, withCounts, withPlace}
 use Rattle.mesh.specs.Mesh.{Outcome, refused, drawn, roomFor, acceptedOf, onceAccepted, strokedOf, outcomeOf}
 use Rattle.mesh.specs.declared.answer.MeshAnswer.{MeshAnswer}
 
@@ -29,17 +29,16 @@ module _ (l : Lists) where
   Roomy a = a .number ≡ 0 → (a .vertices ≤ length (l .vertices) / 5) × (a .triangles ≤ length (l .triangles) / 3)
 
   room-roomy : (o : Stroke) (rs : List (Run Endpoint)) → Roomy (roomFor l o rs)
-  unfolding judgedOf
   room-roomy o rs =
-      let c = meshCounts o rs in
-      by (c .short) (c .vertices) (c .triangles) (ltb (c .short) (c .legs)) (ltb (length (l .vertices) / 5) (c .vertices)) (ltb (length (l .triangles) / 3) (c .triangles)) (ltb-false _ _) (ltb-false _ _)
+      let n = meshCount o rs in
+      let m = length (meshTriangles o 0 rs) in
+      by n m (ltb (length (l .vertices) / 5) n) (ltb (length (l .triangles) / 3) m) (ltb-false _ _) (ltb-false _ _)
     where
-      by : (i n m : ℕ) (short few fewer : Bool) → (few ≡ false → n ≤ length (l .vertices) / 5) → (fewer ≡ false → m ≤ length (l .triangles) / 3)
-          → Roomy (cond short (withPlace 5 i) (cond few (withCounts 6 n m) (cond fewer (withCounts 7 n m) (withCounts 0 n m))))
-      by i n m true few fewer h g e = absurd (omega arith)
-      by i n m false true fewer h g e = absurd (omega arith)
-      by i n m false false true h g e = absurd (omega arith)
-      by i n m false false false h g e = (h refl, g refl)
+      by : (n m : ℕ) (few fewer : Bool) → (few ≡ false → n ≤ length (l .vertices) / 5) → (fewer ≡ false → m ≤ length (l .triangles) / 3)
+          → Roomy (cond few (withCounts 6 n m) (cond fewer (withCounts 7 n m) (withCounts 0 n m)))
+      by n m true fewer h g e = absurd (omega arith)
+      by n m false true h g e = absurd (omega arith)
+      by n m false false h g e = (h refl, g refl)
 
   accepted-roomy : (o : Stroke) (rs : List (Run Endpoint)) → Roomy (acceptedOf l o rs .answer)
   unfolding acceptedOf

@@ -4,7 +4,7 @@ use mathlib.Core.Path.{_≡_, refl, sym, ap, _∙_}
 use Prim.Native.Nat.{ℕ}
 use mathlib.Core.Bool.{cond}
 use lib.Dec.{eqb}
-use Rattle.refusals.specs.Numbers.{numberOf, accepted, outOfRange, tooManyVerbs, misplacedVerb, shortEdge, vertexRoom, longText, malformedText, largeNumber, triangleRoom, listRoom}
+use Rattle.refusals.specs.Numbers.{numberOf, accepted, outOfRange, tooManyVerbs, misplacedVerb, vertexRoom, longText, malformedText, largeNumber, triangleRoom, listRoom}
 use Rattle.plane.specs.Normal.{normalAnswerOf}
 use Rattle.plane.specs.declared.normal.JoinDirection.{JoinDirection}
 use Rattle.plane.specs.declared.normal.JoinDirection.the-variants as normal
@@ -88,9 +88,8 @@ one-checked = same-case checkAnswerOf checked checked-is
 meshed : MeshAnswer → Meshed
 meshed a =
     cond (eqb (a .number) (numberOf accepted)) (mesh.Mesh (a .vertices) (a .triangles))
-    (cond (eqb (a .number) (numberOf shortEdge)) (mesh.ShortEdge (a .place))
     (cond (eqb (a .number) (numberOf vertexRoom)) (mesh.VertexRoom (a .vertices) (a .triangles))
-    (cond (eqb (a .number) (numberOf triangleRoom)) (mesh.TriangleRoom (a .vertices) (a .triangles)) (mesh.Refused (refusalOf (a .number) (a .place))))))
+    (cond (eqb (a .number) (numberOf triangleRoom)) (mesh.TriangleRoom (a .vertices) (a .triangles)) (mesh.Refused (refusalOf (a .number) (a .place)))))
 
 meshed-is : (r : Meshed) → meshed (meshAnswerOf r) ≡ r
 unfolding meshed refusalOf
@@ -99,7 +98,6 @@ meshed-is (mesh.Refused refusal.OutOfRange) = refl
 meshed-is (mesh.Refused refusal.TooManyVerbs) = refl
 meshed-is (mesh.Refused (refusal.Verb i)) = refl
 meshed-is (mesh.Refused (refusal.Coordinate i)) = refl
-meshed-is (mesh.ShortEdge i) = refl
 meshed-is (mesh.VertexRoom n m) = refl
 meshed-is (mesh.TriangleRoom n m) = refl
 

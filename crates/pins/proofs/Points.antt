@@ -31,14 +31,13 @@ use Rattle.path.specs.Verbs.{begin, line, endOpen, endClosed, names, placed, fi
 use Rattle.kept.specs.Points.{endpointsOf}
 use Rattle.joints.specs.Joint.{dataOf, unworkedOf, jointOf, capOf, startCapOf, endCapOf, jointsFrom, jointsOf}
 use Rattle.kept.specs.Kept.{nearOf, keptBehind, allNear, trimmed, keptPoints}
-use Rattle.joints.specs.Leg.{legOf, nextLegOf, legsFrom, legsOf, shortOf, firstShort}
+use Rattle.joints.specs.Leg.{legOf, nextLegOf}
 use Rattle.strip.specs.Joint.{vertexCount, jointVerticesOf, verticesOf}
 use Rattle.strip.specs.Section.{sections}
 use Rattle.strip.specs.Triangle.{different, triOf, between, stripOf, through}
 use Rattle.run.specs.Run.{shapeOf, shapeCount, shapeVertices, shapeTriangles}
-use Rattle.runs.specs.Runs.{meshVertices, meshCount, meshTriangles, meshEdges}
+use Rattle.runs.specs.Runs.{meshVertices, meshCount, meshTriangles}
 use Rattle.pieces.specs.Piece.{lent}
-use Rattle.mesh.specs.Answer.{judgedOf}
 use Rattle.mesh.specs.Mesh.{Outcome, acceptedOf, strokedOf, outcomeOf}
 use Rattle.lists.specs.Over.{over, flat}
 use Rattle.options.specs.declared.Options.{Options}
@@ -183,11 +182,11 @@ unfolding coordinateIn firstOutside within lineJoinOf lineCapOf inRange prepared
 paths = tt
 
 runs : Unit {0}
-unfolding dataOf unworkedOf jointOf capOf startCapOf endCapOf jointsFrom jointsOf nearOf keptBehind allNear trimmed keptPoints legOf nextLegOf legsFrom legsOf shortOf firstShort
+unfolding dataOf unworkedOf jointOf capOf startCapOf endCapOf jointsFrom jointsOf nearOf keptBehind allNear trimmed keptPoints legOf nextLegOf
 runs = tt
 
 meshes : Unit {0}
-unfolding vertexCount jointVerticesOf verticesOf sections flat different triOf between stripOf through shapeOf shapeCount shapeVertices shapeTriangles meshVertices meshCount meshTriangles meshEdges judgedOf acceptedOf strokedOf outcomeOf over
+unfolding vertexCount jointVerticesOf verticesOf sections flat different triOf between stripOf through shapeOf shapeCount shapeVertices shapeTriangles meshVertices meshCount meshTriangles acceptedOf strokedOf outcomeOf over
 meshes = tt
 
 pub worked : every cases ≡ true

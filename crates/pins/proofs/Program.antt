@@ -17,13 +17,12 @@ use Rattle.path.specs.Verbs.{names, placed, firstMisplaced, endsInside, named, 
 use Rattle.kept.specs.Points.{endpointsOf}
 use Rattle.joints.specs.Joint.{dataOf, capOf, startCapOf, endCapOf, jointsFrom, jointsOf}
 use Rattle.kept.specs.Kept.{nearOf, keptBehind, keptPoints}
-use Rattle.joints.specs.Leg.{legOf, legsFrom, legsOf, shortOf, firstShort}
+use Rattle.joints.specs.Leg.{legOf}
 use Rattle.strip.specs.Joint.{vertexCount, jointVerticesOf, verticesOf}
 use Rattle.strip.specs.Section.{sections}
 use Rattle.strip.specs.Triangle.{different, triOf, between, stripOf, through}
 use Rattle.run.specs.Run.{shapeOf, shapeCount, shapeVertices, shapeTriangles}
-use Rattle.runs.specs.Runs.{meshVertices, meshCount, meshTriangles, meshEdges}
-use Rattle.mesh.specs.Answer.{judgedOf}
+use Rattle.runs.specs.Runs.{meshVertices, meshCount, meshTriangles}
 use Rattle.mesh.specs.Mesh.{acceptedOf, strokedOf, outcomeOf}
 use Rattle.form.specs.Bytes.{classOf}
 use Rattle.reader.specs.Read.{scannedOf, formedOf, outcomeOf as readOf}
@@ -49,15 +48,15 @@ unfolding coordinateIn firstOutside within inRange lineCapOf preparedOf strokeOf
 paths = tt
 
 runs : Unit {0}
-unfolding dataOf capOf startCapOf endCapOf jointsFrom jointsOf nearOf keptBehind keptPoints legOf legsFrom legsOf shortOf firstShort
+unfolding dataOf capOf startCapOf endCapOf jointsFrom jointsOf nearOf keptBehind keptPoints legOf
 runs = tt
 
 meshes : Unit {0}
-unfolding vertexCount jointVerticesOf verticesOf sections flat different triOf between stripOf through shapeOf shapeCount shapeVertices shapeTriangles meshVertices meshCount meshTriangles meshEdges
+unfolding vertexCount jointVerticesOf verticesOf sections flat different triOf between stripOf through shapeOf shapeCount shapeVertices shapeTriangles meshVertices meshCount meshTriangles
 meshes = tt
 
 calls : Unit {0}
-unfolding judgedOf acceptedOf strokedOf outcomeOf over classOf scannedOf formedOf readOf glyphOf digitsOf placesUpTo decimalOf linesTo meshPage meshPageOf readPageOf
+unfolding acceptedOf strokedOf outcomeOf over classOf scannedOf formedOf readOf glyphOf digitsOf placesUpTo decimalOf linesTo meshPage meshPageOf readPageOf
 calls = tt
 
 pub example : Prints (bytes "M0 1L2 1") (bytes "v 4\n00000000 40000000\n00000000 00000000\n40000000 40000000\n40000000 00000000\nt 2\n1 0 2\n1 2 3\n")

@@ -15,8 +15,7 @@ pub data Meaning : Type 0 where
   misplacedVerb : Meaning
   -- "a coordinate not finite or too large"
   badCoordinate : Meaning
-  -- "an edge whose offset points on a side have f32 squared distance below 2^-40"
-  shortEdge : Meaning
+  -- W-207: "5 is retired." No meaning has it: what it meant, and that it was never earned, is crates/far
   -- "too few vertex places"
   vertexRoom : Meaning
   -- "too few triangle places"
@@ -50,7 +49,6 @@ numberOf outOfRange = 1
 numberOf tooManyVerbs = 2
 numberOf misplacedVerb = 3
 numberOf badCoordinate = 4
-numberOf shortEdge = 5
 numberOf vertexRoom = 6
 numberOf triangleRoom = 7
 numberOf longText = 8

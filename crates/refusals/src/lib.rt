@@ -12,7 +12,7 @@ pub const MISPLACED_VERB: u32 = 3;
 
 pub const BAD_COORDINATE: u32 = 4;
 
-pub const SHORT_EDGE: u32 = 5;
+// 5 is retired (W-207) and is given no other meaning.
 
 pub const VERTEX_ROOM: u32 = 6;
 

@@ -1,4 +1,4 @@
--- All runs of a path, one after another: their vertices, triangles, legs and counts. Assumes nothing.
+-- All runs of a path, one after another: their vertices, triangles and counts. Assumes nothing.
 use Prim.Native.Nat.{ℕ, _+_}
 use mathlib.Core.List.{List, [], _∷_, _++_}
 use lib.Ieee.{Float}
@@ -7,9 +7,6 @@ use Rattle.endpoint.specs.declared.Endpoint.{Endpoint}
 use Rattle.options.specs.declared.Stroke.{Stroke}
 use Rattle.path.specs.Runs.{Run, runsFrom}
 use Rattle.kept.specs.Points.{endpointsOf}
-use Rattle.kept.specs.Kept.{keptPoints}
-use Rattle.joints.specs.Leg.{legsOf, firstShort}
-use Rattle.joints.specs.declared.leg.Leg.{Leg}
 use Rattle.triangles.specs.Tri.{Tri}
 use Rattle.pieces.specs.Piece.{Vertex, Piece, nextVertex}
 use Rattle.pieces.specs.declared.Place.{Place}
@@ -41,17 +38,10 @@ meshTriangles o base (r ∷ rs) = shapeTriangles (r .closed) base (drawnOf o r) 
 abbrev pub meshPiece : Stroke → Place → List (Run Endpoint) → Piece
 meshPiece o k rs = record { vertices = meshVertices o rs; triangles = meshTriangles o (nextVertex k) rs }
 
--- "the kept edges of all runs, closing ones included"
-unfoldable pub meshEdges : Stroke → List (Run Endpoint) → List Leg
-meshEdges o [] = []
-meshEdges o (r ∷ rs) = legsOf (r .closed) (o .«half_width») (keptPoints (o .near) (r .closed) (r .points)) ++ meshEdges o rs
-
--- how many of each there are, and the first short edge
+-- how many of each there are
 pub record Tally : Type 0 where
   pub vertices : ℕ
   pub triangles : ℕ
-  pub legs : ℕ
-  pub short : ℕ
 
 abbrev pub meshCounts : Stroke → List (Run Endpoint) → Tally
-meshCounts o rs = record { vertices = meshCount o rs; triangles = length (meshTriangles o 0 rs); legs = length (meshEdges o rs); short = firstShort (meshEdges o rs) }
+meshCounts o rs = record { vertices = meshCount o rs; triangles = length (meshTriangles o 0 rs) }

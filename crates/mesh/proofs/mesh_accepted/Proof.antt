@@ -24,7 +24,7 @@ is-plenty-requires c κs = search needs
 draw-runs-requires : tie.Need-draw-runs-requires
 draw-runs-requires c κs =
     let pre = c .before .before .before .before .before .before .before .before .pre in
-    (sound-paired _ _ (pre .1), plenty-fits _ _ _ (pre .1) (pre .0) _ (c .before .before .before .is-plenty .ensures (c .before .before .if1 .taken)))
+    (sound-paired _ _ pre, plenty-fits _ _ _ pre _ (c .before .before .before .is-plenty .ensures (c .before .before .if1 .taken)))
 
 same-length : tie.Need-same-length
 same-length c = search needs
@@ -35,10 +35,10 @@ same-length-2 c = search needs
 returns : tie.Need-returns
 returns c =
     let pre = (to-is-plenty (c .before .before .before .before)) .before .before .before .before .before .pre in
-    plenty-drawn _ _ _ (pre .1) (pre .0) _ (to-is-plenty (c .before .before .before .before) .is-plenty .ensures (c .before .before .before .before .before .before .before .if1 .taken)) (c .before .before .before .before .draw-runs .ensures)
+    plenty-drawn _ _ _ pre _ (to-is-plenty (c .before .before .before .before) .is-plenty .ensures (c .before .before .before .before .before .before .before .if1 .taken)) (c .before .before .before .before .draw-runs .ensures)
 
 count-accepted-requires : tie.Need-count-accepted-requires
-count-accepted-requires c κs = c .before .before .before .before .before .before .before .before .pre .1
+count-accepted-requires c κs = c .before .before .before .before .before .before .before .before .pre
 
 judged-requires : tie.Need-judged-requires
 judged-requires c κs = search needs
@@ -52,7 +52,7 @@ draw-runs-requires-2 c κs =
     let n = to-count-accepted j in
     let pre = to-is-plenty-from-count-accepted n .before .before .before .before .before .pre in
     let e = sym (c .before .before .before .fits2 .ensures) ∙ c .before .before .if2 .taken in
-    (sound-paired _ _ (pre .1), mesh-fits _ _ _ (pre .1) (pre .0) _ (n .count-accepted .ensures) _ (j .judged .ensures) e)
+    (sound-paired _ _ pre, mesh-fits _ _ _ pre _ (n .count-accepted .ensures) _ (j .judged .ensures) e)
 
 same-length-3 : tie.Need-same-length-3
 same-length-3 c = search needs
@@ -67,7 +67,7 @@ returns-2 c =
     let n = to-count-accepted j in
     let pre = to-is-plenty-from-count-accepted n .before .before .before .before .before .pre in
     let e = sym (d .before .before .before .before .fits2 .ensures) ∙ d .before .before .before .if2 .taken in
-    is-drawn _ _ _ (pre .1) (pre .0) _ (n .count-accepted .ensures) _ (j .judged .ensures) e (d .draw-runs2 .ensures)
+    is-drawn _ _ _ pre _ (n .count-accepted .ensures) _ (j .judged .ensures) e (d .draw-runs2 .ensures)
 
 same-length-5 : tie.Need-same-length-5
 same-length-5 c = search needs
@@ -78,7 +78,7 @@ same-length-6 c = search needs
 returns-3 : tie.Need-returns-3
 returns-3 c =
     let pre = (to-is-plenty-from-count-accepted (to-count-accepted (c .before .before))) .before .before .before .before .before .pre in
-    is-refused _ _ _ (pre .1) (pre .0) _ (to-count-accepted (c .before .before) .count-accepted .ensures) _ (c .before .before .judged .ensures) (sym (c .before .fits2 .ensures) ∙ c .if2 .left)
+    is-refused _ _ _ pre _ (to-count-accepted (c .before .before) .count-accepted .ensures) _ (c .before .before .judged .ensures) (sym (c .before .fits2 .ensures) ∙ c .if2 .left)
 
 pub mesh-accepted-spec : {M : Type 1} → statement M
 mesh-accepted-spec =

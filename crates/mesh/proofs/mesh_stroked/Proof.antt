@@ -16,7 +16,7 @@ enum-told : tie.Need-enum-told
 enum-told c = search needs
 
 mesh-accepted-requires : tie.Need-mesh-accepted-requires
-mesh-accepted-requires c κs = (c .before .before .before .before .before .before .before .before .before .pre, sound _ _ (ap (λ (a : Verdict). a .number) (sym (c .before .before .before .before .check-path .ensures) ∙ ap checkAnswerOf (c .before .before .enum-told .given .1))))
+mesh-accepted-requires c κs = sound _ _ (ap (λ (a : Verdict). a .number) (sym (c .before .before .before .before .check-path .ensures) ∙ ap checkAnswerOf (c .before .before .enum-told .given .1)))
 
 enum-known-r : tie.Need-enum-known-r
 enum-known-r c = search needs

@@ -14,7 +14,7 @@ enum-known-stroke : tie.Need-enum-known-stroke
 enum-known-stroke c = search needs
 
 mesh-stroked-requires : tie.Need-mesh-stroked-requires
-mesh-stroked-requires c κs = record { options = c .before .before .before .before .before .before .before .before .before .before .args .options; is = sym (c .before .before .before .before .before .stroke-of .ensures) ∙ ap strokeAnswerOf (c .before .before .before .stroke .given .1) }
+mesh-stroked-requires c κs = search needs
 
 enum-known-r : tie.Need-enum-known-r
 enum-known-r c = search needs

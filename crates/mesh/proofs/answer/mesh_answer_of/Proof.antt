@@ -21,17 +21,11 @@ with-place-requires c κs = search needs
 enum-known-answer-3 : tie.Need-enum-known-answer-3
 enum-known-answer-3 c = search needs
 
-with-place-requires-2 : tie.Need-with-place-requires-2
-with-place-requires-2 c κs = search needs
-
-enum-known-answer-4 : tie.Need-enum-known-answer-4
-enum-known-answer-4 c = search needs
-
 with-counts-requires-2 : tie.Need-with-counts-requires-2
 with-counts-requires-2 c κs = search needs
 
-enum-known-answer-5 : tie.Need-enum-known-answer-5
-enum-known-answer-5 c = search needs
+enum-known-answer-4 : tie.Need-enum-known-answer-4
+enum-known-answer-4 c = search needs
 
 with-counts-requires-3 : tie.Need-with-counts-requires-3
 with-counts-requires-3 c κs = search needs
@@ -43,13 +37,10 @@ returns-2 : tie.Need-returns-2
 returns-2 c = rw (c .with-place .ensures, c .before .verdict-of .ensures, c .before .before .before .answer2 .given .1)
 
 returns-3 : tie.Need-returns-3
-returns-3 c = rw (c .with-place2 .ensures, c .before .before .answer3 .given .1)
+returns-3 c = rw (c .with-counts2 .ensures, c .before .before .answer3 .given .1)
 
 returns-4 : tie.Need-returns-4
-returns-4 c = rw (c .with-counts2 .ensures, c .before .before .answer4 .given .1)
-
-returns-5 : tie.Need-returns-5
-returns-5 c = rw (c .with-counts3 .ensures, c .before .before .answer5 .given .1)
+returns-4 c = rw (c .with-counts3 .ensures, c .before .before .answer4 .given .1)
 
 pub mesh-answer-of-spec : {M : Type 1} → statement M
 mesh-answer-of-spec =
@@ -61,13 +52,10 @@ mesh-answer-of-spec =
     verdict-of-requires
     with-place-requires
     enum-known-answer-3
-    with-place-requires-2
-    enum-known-answer-4
     with-counts-requires-2
-    enum-known-answer-5
+    enum-known-answer-4
     with-counts-requires-3
     returns
     returns-2
     returns-3
-    returns-4
-    returns-5)
+    returns-4)
