@@ -31,7 +31,7 @@ use Rattle.far.proofs.Course.{run-none}
 
 -- ---- the points of a path
 points-in : (first : ℕ) (cs : List Float) → ((i : ℕ) → i < length cs → coordinateIn (getD cs i nan) ≡ true) → All Inside (endpointsOf first cs)
-unfolding endpointsOf
+unfolding endpointsOf coordinateIn
 points-in first [] f = tt
 points-in first (x ∷ []) f = tt
 points-in first (x ∷ y ∷ cs) f =

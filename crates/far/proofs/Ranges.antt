@@ -14,7 +14,7 @@ use lib.Ieee.Exact.{HasValue}
 use lib.Ieee.Positive.{num, den, den-pos, between, positive-finite, le→cross}
 use Rattle.plane.specs.Normal.{pick}
 use Rattle.plane.specs.F32.{sizeAtMost}
-use Rattle.path.specs.Coordinates.{coordinateIn}
+use Rattle.path.specs.Coordinates.{coordinateLimit}
 use Rattle.options.specs.Options.{within, widthIn, limitIn, mergeIn, joinIn, capIn, inRange, preparedOf, accepting, strokeOf}
 use Rattle.options.specs.declared.Options.{Options}
 use Rattle.options.specs.declared.Stroke.{Stroke}
@@ -57,8 +57,8 @@ sized n g (fin false m d) e =
     let t = and-r (le (fin true n g) (fin false m d)) (le (fin false m d) (fin false n g)) (told _ e) in
     (tt, less-or-equal a b (ltb a b) (eqb a b) (ltb→lt a b) (eqb→eq a b) t)
 
-pub coordinate : (x : Float) → coordinateIn x ≡ true → Within 32768 x
-unfolding coordinateIn ofBits
+pub coordinate : (x : Float) → sizeAtMost x coordinateLimit ≡ true → Within 32768 x
+unfolding ofBits
 coordinate x e = let s = sized 1 (pos 15) x e in (s .0, plain (num x) (den x) (s .1))
   where
     plain : (x y : ℕ) → x * 1 ≤ 1 * 32768 * y → x ≤ 32768 * y

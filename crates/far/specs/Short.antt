@@ -8,7 +8,7 @@ use Rattle.plane.specs.F32.{_⊗_, f32, sizeAtMost}
 use Rattle.plane.specs.Vector.{minusOf, squareLengthOf}
 use Rattle.plane.specs.declared.vector.Point.{Point}
 use Rattle.endpoint.specs.declared.Endpoint.{Endpoint}
-use Rattle.path.specs.Coordinates.{coordinateIn}
+use Rattle.path.specs.Coordinates.{coordinateLimit}
 use Rattle.path.specs.Runs.{Run}
 use Rattle.options.specs.Options.{mergeIn}
 use Rattle.options.specs.declared.Stroke.{Stroke}
@@ -47,8 +47,8 @@ meshEdges o (r ∷ rs) = legsOf (r .closed) (o .«half_width») (keptPoints (o .
 
 -- ---- "document 01's limits": "Coordinates are finite, -32,768 to 32,768"; "width 1/256 to 16,384", of which h is the half
 pub record Inside (p : Endpoint) : Type 0 where
-  pub x : coordinateIn (p .position .x) ≡ true
-  pub y : coordinateIn (p .position .y) ≡ true
+  pub x : sizeAtMost (p .position .x) coordinateLimit ≡ true
+  pub y : sizeAtMost (p .position .y) coordinateLimit ≡ true
 
 abbrev pub Half : Float → Type 0
 Half h = sizeAtMost h (f32 0x46000000) ≡ true
