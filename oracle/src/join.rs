@@ -19,14 +19,29 @@ fn sign_of(side: usize) -> f32 {
     }
 }
 
-/// Rule 5: no factor 4, as the text's helper has it.
-pub fn limit_is_exceeded(normal: Vector, limit: f32) -> bool {
-    normal.square_length() > limit * limit
+/// Where a lane runs back along itself; the sign of a zero does not count.
+pub fn is_zero(normal: Vector) -> bool {
+    normal.x == 0.0 && normal.y == 0.0
 }
 
-/// Rule 6: both offsets of a side, moved to the clip line at distance c along the normal.
-pub fn clip(first: Vector, second: Vector, normal: Vector, c: f32) -> (Vector, Vector) {
-    let u = normal.normalize();
+/// Rule 5: no factor 4, as the text's helper has it. W-208: "a zero normal is now beyond every
+/// limit".
+pub fn limit_is_exceeded(normal: Vector, limit: f32) -> bool {
+    is_zero(normal) || normal.square_length() > limit * limit
+}
+
+/// Rule 6's u: the normal over its length. W-208: where it is zero "MiterClip takes the incoming
+/// side direction for u".
+fn clip_direction(turn: &Turn) -> Vector {
+    if is_zero(turn.normal) {
+        turn.v0
+    } else {
+        turn.normal.normalize()
+    }
+}
+
+/// Rule 6: both offsets of a side, moved to the clip line at distance c along u.
+pub fn clip(first: Vector, second: Vector, u: Vector, c: f32) -> (Vector, Vector) {
     (clip_offset(first, u, c), clip_offset(second, u, c))
 }
 
@@ -167,7 +182,7 @@ impl Corner<'_> {
         let first = self.before.end[side] - position;
         let second = self.after.start[side] - position;
         let c = limit * self.join.half_width;
-        let (first, second) = clip(first, second, turn.normal, c);
+        let (first, second) = clip(first, second, clip_direction(turn), c);
         Points::Pair(position + first, position + second)
     }
 }

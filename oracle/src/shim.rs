@@ -102,12 +102,18 @@ pub fn miter_limit_is_exceeded(normal: Vector, miter_limit: f32) -> bool {
     join::limit_is_exceeded(normal, miter_limit)
 }
 
-/// Rule 6 in place of the text's helper.
+/// Rule 6 in place of the text's helper, which knows no side direction: where the normal is zero
+/// W-208 asks for one, and nobody asks the text.
 pub fn get_clip_intersections(
     previous_normal: Vector,
     next_normal: Vector,
     normal: Vector,
     clip_distance: f32,
 ) -> (Vector, Vector) {
-    join::clip(previous_normal, next_normal, normal, clip_distance)
+    join::clip(
+        previous_normal,
+        next_normal,
+        normal.normalize(),
+        clip_distance,
+    )
 }

@@ -5,7 +5,8 @@
 
 use crate::edge::Edge;
 use crate::endpoint::{Endpoint, Points};
-use crate::routines::Routines;
+use crate::join::is_zero;
+use crate::routines::{Reading, Routines};
 use crate::shim::*;
 use crate::vertices::{Mesh, SideIds};
 use crate::window::Window;
@@ -27,11 +28,19 @@ impl Routines for Text {
         compute_normal(v1, v2)
     }
 
+    /// W-208 is not in the text: the points of a side whose normal is zero are the reading's.
     fn work_join(prev: &Endpoint, join: &Endpoint, next: &Endpoint, limit: f32) -> Endpoint {
-        let (prev, mut data, next) = corner(prev, join, next);
-        compute_join_side_positions(&prev, &mut data, &next, limit, SIDE_POSITIVE);
-        compute_join_side_positions(&prev, &mut data, &next, limit, SIDE_NEGATIVE);
-        endpoint(&data)
+        let (before, unworked, after) = corner(prev, join, next);
+        let mut data = unworked;
+        compute_join_side_positions(&before, &mut data, &after, limit, SIDE_POSITIVE);
+        compute_join_side_positions(&before, &mut data, &after, limit, SIDE_NEGATIVE);
+        let mut worked = endpoint(&data);
+        for side in [SIDE_POSITIVE, SIDE_NEGATIVE] {
+            if has_zero_normal(&before, &unworked, &after, side) {
+                worked.sides[side] = Reading::work_join(prev, join, next, limit).sides[side];
+            }
+        }
+        worked
     }
 
     fn write_joint(joint: &Endpoint, mesh: &mut Mesh) -> [SideIds; 2] {
@@ -76,6 +85,18 @@ fn corner(
         next.side_points[side].prev = after.end[side];
     }
     (prev, join, next)
+}
+
+/// Whether the text's normal of a side, between the side directions that it takes, is zero.
+fn has_zero_normal(
+    prev: &EndpointData,
+    join: &EndpointData,
+    next: &EndpointData,
+    side: usize,
+) -> bool {
+    let v0 = (join.side_points[side].prev - prev.side_points[side].next).normalize();
+    let v1 = (next.side_points[side].prev - join.side_points[side].next).normalize();
+    is_zero(compute_normal(v0, v1))
 }
 
 /// Our record as the source keeps it.

@@ -6,6 +6,7 @@ mod common;
 mod decimal;
 mod facts;
 mod form;
+mod hairpin;
 mod kept;
 mod lines;
 mod open_points;

@@ -124,7 +124,8 @@ fn run_right_angle() {
 fn run_closed_run_of_two() {
     let with = |join| stroke(options(2.0, 4.0, join, BUTT), &[(&[A, B], true)]).counts();
     assert_eq!(with(BEVEL), (8, 8));
-    assert_eq!(with(MITER), (4, 4));
+    // Document 01 has 4 and 4; W-208 makes it 8 and 8.
+    assert_eq!(with(MITER), (8, 8));
 }
 
 #[test]
