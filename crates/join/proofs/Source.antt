@@ -1,4 +1,5 @@
--- The source's routine, called for one side and then for the other, leaves what `sidePositionsOf` says, for all records and numbers. Assumes nothing.
+-- The source's routine, called for one side and then for the other, leaves what `sidePositionsOf` says, for all records and numbers, but for the points of a side whose
+-- normal is zero. Assumes nothing.
 --
 -- One call is brought to the form `set join (put ..) (put ..) ..` (`one`), so that the second call reads its own side as it was; what is then left to see
 -- is that the branches are the same (`branches`), which is a table of truth values.
@@ -15,12 +16,12 @@ use Rattle.endpoint.specs.declared.LineJoin.{LineJoin}
 use Rattle.endpoint.specs.declared.LineJoin.the-variants.{Miter, MiterClip, Bevel}
 use Rattle.endpoint.specs.declared.Side.{Side}
 use Rattle.endpoint.specs.declared.Side.the-variants.{Positive, Negative}
-use Rattle.join.specs.Clip.{clippedOf}
+use Rattle.join.specs.Clip.{zeroOf, cutOf, clippedOf}
 use Rattle.join.specs.Edge.{edgeSideOf, edgeOf}
 use Rattle.join.specs.Side as crate
-use Rattle.join.specs.Side.{inwardOf, pastOf, overshootsOf, foldedOf, foldsOf, tipOf, kindOf, decidedOf, tipPointOf, clippedPairOf, pointsOf, isInner, cornerOf, joinSideOf}
+use Rattle.join.specs.Side.{inwardOf, pastOf, overshootsOf, foldedOf, foldsOf, tooLong, exceededOf, tipOf, kindOf, decidedOf, tipPointOf, clippedPairOf, pointsOf, isInner, cornerOf, joinSideOf}
 use Rattle.join.specs.Record.{turnOf, sidePositionsOf, innerJoinOf}
-use Rattle.join.specs.Source.{SourcePoints, SourceData, sourcePoints, put, set, isMiter, isMiterClip, computeJoinSidePositions, unset, pointsIn, lastInner, Same}
+use Rattle.join.specs.Source.{SourcePoints, SourceData, sourcePoints, put, set, isMiter, isMiterClip, computeJoinSidePositions, edgeSide, unset, pointsIn, lastInner, Same}
 use Rattle.join.specs.declared.edge.Edge.{Edge}
 use Rattle.join.specs.declared.side.Corner.{Corner}
 use Rattle.join.specs.declared.side.Decided.{Decided}
@@ -90,6 +91,18 @@ module _ {A : Type 0} (f : Side → Bool) (side : Side) (h : f side ≡ false) (
   branches true true false false true tip clip = rw (put-at f side true) (outer (put f side true) tip clip)
   branches true true false false false tip clip = rw h (still Single)
 
+-- whether a side is an inner join does not turn on the limit
+outside : (tip clip : Bool) → isInner (pick tip Single (pick clip Clipped Beside)) ≡ false
+outside true clip = refl
+outside false true = refl
+outside false false = refl
+
+same-inner : (concave overshoots a b clip : Bool)
+    → isInner (pick concave (pick overshoots Inner Single) (pick a Single (pick clip Clipped Beside)))
+    ≡ isInner (pick concave (pick overshoots Inner Single) (pick b Single (pick clip Clipped Beside)))
+same-inner true overshoots a b clip = refl
+same-inner false overshoots a b clip = outside a clip ∙ sym (outside b clip)
+
 -- ---- one call
 module _ (prev next j : SourceData) (limit : Float) (side : Side) (points : Side → SourcePoints) where
   corner : Corner
@@ -112,21 +125,46 @@ module _ (prev next j : SourceData) (limit : Float) (side : Side) (points : Side
   decided : Decided
   decided = decidedOf corner turn
 
+  -- the tip and the kind by the source's limit, which a zero normal does not exceed
+  abbrev tip : Bool
+  tip = crate.isMiter (j .«line_join») && not (tooLong (corner .normal) limit)
+
+  abbrev overshoots : Bool
+  overshoots = overshootsOf (inwardOf corner turn) corner turn
+
+  abbrev concave : Bool
+  concave = inwardOf corner turn && not (decided .fold)
+
+  kind : Kind
+  kind = pick concave (pick overshoots Inner Single) (pick tip Single (pick (isMiterClip (j .«line_join»)) Clipped Beside))
+
+  kind-is : zeroOf (corner .normal) ≡ false → kind ≡ decided .kind
+  unfolding kind decided decidedOf kindOf tipOf exceededOf turn
+  kind-is z = rw z
+
+  inner-is : isInner kind ≡ isInner (decided .kind)
+  unfolding kind decided decidedOf kindOf tipOf turn
+  inner-is = same-inner concave overshoots tip (tipOf (corner .normal) turn) (isMiterClip (j .«line_join»))
+
   -- the side's points by its kind
   left : Kind → SourcePoints
   left Inner = points side
   left Single = sourcePoints (points side .prev) (points side .next) (some (plusOf (j .position) (timesOf (corner .normal) (j .«half_width»))))
   left Clipped =
-      let n = clippedOf (minusOf (points side .prev) (j .position)) (minusOf (points side .next) (j .position)) (corner .normal) (limit ⊗ j .«half_width») in
+      let n = clippedOf (minusOf (points side .prev) (j .position)) (minusOf (points side .next) (j .position)) (normalizeOf (corner .normal)) (limit ⊗ j .«half_width») in
       sourcePoints (plusOf (j .position) (n .prev)) (plusOf (j .position) (n .next)) (points side .«single_vertex»)
   left Beside = points side
 
-  left-is : points side .«single_vertex» ≡ none → (k : Kind) → pointsIn (left k) ≡ pointsOf k (points side .prev) (points side .next) (corner .normal) turn
-  unfolding left turn tipPointOf clippedPairOf
-  left-is h Inner = rw h
-  left-is h Single = refl
-  left-is h Clipped = rw h
-  left-is h Beside = rw h
+  module _ (h : points side .«single_vertex» ≡ none) (z : zeroOf (corner .normal) ≡ false) where
+    each-is : (k : Kind) → pointsIn (left k) ≡ pointsOf k (points side .prev) (points side .next) corner turn
+    unfolding left turn tipPointOf clippedPairOf cutOf
+    each-is Inner = rw h
+    each-is Single = refl
+    each-is Clipped = rw (h, z)
+    each-is Beside = rw h
+
+    left-is : pointsIn (left kind) ≡ pointsOf (decided .kind) (points side .prev) (points side .next) corner turn
+    left-is = rw (kind-is z) (each-is (decided .kind))
 
   module _ (fold : Side → Bool) (inner : Option Side) where
     leaves : Kind → (Side → Bool) → SourceData
@@ -143,8 +181,8 @@ module _ (prev next j : SourceData) (limit : Float) (side : Side) (points : Side
     leaves-is Beside g = rw (put-same points side)
 
     one : fold side ≡ false → computeJoinSidePositions prev (set j points fold inner) next limit side
-        ≡ set j (put points side (left (decided .kind))) (put fold side (decided .fold)) (pick (isInner (decided .kind)) (some side) inner)
-    unfolding computeJoinSidePositions decided decidedOf kindOf inwardOf overshootsOf pastOf foldsOf foldedOf tipOf corner turn leaves left theirs ours
+        ≡ set j (put points side (left kind)) (put fold side (decided .fold)) (pick (isInner kind) (some side) inner)
+    unfolding computeJoinSidePositions kind decided decidedOf inwardOf overshootsOf pastOf foldsOf foldedOf corner turn leaves left theirs ours
     one h =
         rw (miter-or-clip (j .«line_join»))
         (branches fold side h leaves
@@ -153,9 +191,9 @@ module _ (prev next j : SourceData) (limit : Float) (side : Side) (points : Side
         (above (dotOf (corner .v0) (corner .v1)))
         (pastOf corner turn)
         (lt (squareLengthOf (corner .normal)) (f32 0x3727c5ac))
-        (tipOf (corner .normal) turn)
+        tip
         (isMiterClip (j .«line_join»)))
-        ∙ leaves-is (decided .kind) (put fold side (decided .fold))
+        ∙ leaves-is kind (put fold side (decided .fold))
 
 -- ---- both calls
 last-inner : (p n : Bool) → pick n (some Negative) (pick p (some Positive) none) ≡ lastInner (innerJoinOf p n)
@@ -185,31 +223,44 @@ module _ (e0 e1 e2 : EndpointData) (b0 a2 : Edge) (limit : Float) where
   abbrev call : SourceData → Side → SourceData
   call j side = computeJoinSidePositions prev j next limit side
 
-  p : Decided
-  p = decided prev next join limit Positive (join .«side_points»)
+  fold : Side → (Side → SourcePoints) → Bool
+  fold side ps = decided prev next join limit side ps .fold
+
+  p : Kind
+  p = kind prev next join limit Positive (join .«side_points»)
 
   points : Side → SourcePoints
-  points = put (join .«side_points») Positive (left prev next join limit Positive (join .«side_points») (p .kind))
+  points = put (join .«side_points») Positive (left prev next join limit Positive (join .«side_points») p)
 
-  n : Decided
-  n = decided prev next join limit Negative points
+  n : Kind
+  n = kind prev next join limit Negative points
 
   called : call (call join Positive) Negative
-      ≡ set join (put points Negative (left prev next join limit Negative points (n .kind))) (put (put (join .fold) Positive (p .fold)) Negative (n .fold))
-      (pick (isInner (n .kind)) (some Negative) (pick (isInner (p .kind)) (some Positive) none))
-  unfolding p n points
+      ≡ set join (put points Negative (left prev next join limit Negative points n))
+      (put (put (join .fold) Positive (fold Positive (join .«side_points»))) Negative (fold Negative points))
+      (pick (isInner n) (some Negative) (pick (isInner p) (some Positive) none))
+  unfolding p n points fold
   called =
       ap (λ (j : SourceData). call j Negative) (one prev next join limit Positive (join .«side_points») (join .fold) none refl)
-      ∙ one prev next join limit Negative points (put (join .fold) Positive (p .fold)) (pick (isInner (p .kind)) (some Positive) none) refl
+      ∙ one prev next join limit Negative points (put (join .fold) Positive (fold Positive (join .«side_points»))) (pick (isInner p) (some Positive) none) refl
 
-  pub source-same : Same (call (call join Positive) Negative) (sidePositionsOf before e1 after (e0 .advancement) (e2 .advancement) limit)
-  unfolding p n points decided corner turn sidePositionsOf joinSideOf cornerOf turnOf edgeOf edgeSideOf normalizeOf
+  -- which sides have a zero normal
+  abbrev zero : Side → Bool
+  zero side = zeroOf (cornerOf (edgeSide before side) (edgeSide after side) side .normal)
+
+  inners : pick (isInner n) (some Negative) (pick (isInner p) (some Positive) none)
+      ≡ lastInner (innerJoinOf (isInner (decided prev next join limit Positive (join .«side_points») .kind)) (isInner (decided prev next join limit Negative points .kind)))
+  unfolding p n
+  inners = rw (sym (inner-is prev next join limit Positive (join .«side_points»)), sym (inner-is prev next join limit Negative points)) (last-inner (isInner p) (isInner n))
+
+  pub source-same : Same zero (call (call join Positive) Negative) (sidePositionsOf before e1 after (e0 .advancement) (e2 .advancement) limit)
+  unfolding p n points fold decided corner turn sidePositionsOf joinSideOf cornerOf turnOf edgeOf edgeSideOf normalizeOf
   source-same =
       rw called
       (record {
-        positive = left-is prev next join limit Positive (join .«side_points») refl (p .kind);
-        negative = left-is prev next join limit Negative points refl (n .kind);
+        positive = left-is prev next join limit Positive (join .«side_points») refl;
+        negative = left-is prev next join limit Negative points refl;
         «fold_positive» = refl;
         «fold_negative» = refl;
-        «inner_join» = last-inner (isInner (p .kind)) (isInner (n .kind));
+        «inner_join» = inners;
       })

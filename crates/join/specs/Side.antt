@@ -1,6 +1,6 @@
 -- Rule 5 on one side: "The limit is exceeded when the normal's squared length is above limit*limit. Each side is Single with its point or
--- Pair with two points; inner joins and folds without a single point are pairs." The branches are those of `compute_join_side_positions`; `Source` has
--- that routine in its own order and words. Assumes nothing.
+-- Pair with two points; inner joins and folds without a single point are pairs." And document 02's W-208: "a zero normal is now beyond every limit". The branches are
+-- those of `compute_join_side_positions`; `Source` has that routine in its own order and words. Assumes nothing.
 use Prim.Native.Nat.{ℕ}
 use mathlib.Core.Bool.{Bool, true, false, not, _&&_, _||_}
 use lib.Ieee.{Float, lt, ne}
@@ -13,7 +13,7 @@ use Rattle.endpoint.specs.declared.LineJoin.{LineJoin}
 use Rattle.endpoint.specs.declared.LineJoin.the-variants.{Miter, MiterClip, Bevel}
 use Rattle.endpoint.specs.declared.Side.{Side}
 use Rattle.endpoint.specs.declared.SidePoints.{SidePoints}
-use Rattle.join.specs.Clip.{clippedOf}
+use Rattle.join.specs.Clip.{zeroOf, cutOf, clippedOf}
 use Rattle.join.specs.declared.edge.EdgeSide.{EdgeSide}
 use Rattle.join.specs.declared.side.Corner.{Corner}
 use Rattle.join.specs.declared.side.Decided.{Decided}
@@ -61,8 +61,12 @@ foldedOf overshoots c = not (above (dotOf (c .v0) (c .v1))) && (overshoots || lt
 unfoldable pub foldsOf : Bool → Bool → Corner → Bool
 foldsOf inward overshoots c = inward && foldedOf overshoots c
 
+-- "the normal's squared length is above limit*limit"
+unfoldable pub tooLong : Point → Float → Bool
+tooLong normal limit = lt (limit ⊗ limit) (squareLengthOf normal)
+
 unfoldable pub exceededOf : Point → Float → Bool
-exceededOf normal limit = lt (limit ⊗ limit) (squareLengthOf normal)
+exceededOf normal limit = zeroOf normal || tooLong normal limit
 
 unfoldable pub tipOf : Point → Turn → Bool
 tipOf normal e = isMiter (e .«line_join») && not (exceededOf normal (e .limit))
@@ -84,17 +88,18 @@ unfoldable pub tipPointOf : Point → Turn → SidePoints
 tipPointOf normal e = singleOf (plusOf (e .position) (timesOf normal (e .«half_width»)))
 
 -- the two points, each cut off by rule 6 as an offset from the join's position
-unfoldable pub clippedPairOf : Point → Point → Point → Turn → SidePoints
-clippedPairOf prev next normal e =
-    let cut = clippedOf (minusOf prev (e .position)) (minusOf next (e .position)) normal (e .limit ⊗ e .«half_width») in
+unfoldable pub clippedPairOf : Point → Point → Corner → Turn → SidePoints
+clippedPairOf prev next c e =
+    let u = cutOf (c .v0) (c .normal) in
+    let cut = clippedOf (minusOf prev (e .position)) (minusOf next (e .position)) u (e .limit ⊗ e .«half_width») in
     pairOf (plusOf (e .position) (cut .prev)) (plusOf (e .position) (cut .next))
 
 -- what each kind stands for: its points, how many they are, and whether it is an inner join
-abbrev pub pointsOf : Kind → Point → Point → Point → Turn → SidePoints
-pointsOf Inner prev next normal e = pairOf prev next
-pointsOf Single prev next normal e = tipPointOf normal e
-pointsOf Clipped prev next normal e = clippedPairOf prev next normal e
-pointsOf Beside prev next normal e = pairOf prev next
+abbrev pub pointsOf : Kind → Point → Point → Corner → Turn → SidePoints
+pointsOf Inner prev next c e = pairOf prev next
+pointsOf Single prev next c e = tipPointOf (c .normal) e
+pointsOf Clipped prev next c e = clippedPairOf prev next c e
+pointsOf Beside prev next c e = pairOf prev next
 
 abbrev pub kindCountOf : Kind → ℕ
 kindCountOf Inner = 2
@@ -112,4 +117,4 @@ isInner Beside = false
 unfoldable pub joinSideOf : Corner → Point → Point → Turn → JoinSide
 joinSideOf c prev next e =
     let d = decidedOf c e in
-    record { points = pointsOf (d .kind) prev next (c .normal) e; fold = d .fold; inner = isInner (d .kind) }
+    record { points = pointsOf (d .kind) prev next c e; fold = d .fold; inner = isInner (d .kind) }

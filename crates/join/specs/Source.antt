@@ -1,6 +1,7 @@
 -- lyon's `compute_join_side_positions` as it stands in its source, stroke.rs, in its order and with its names, to be read beside it. What it calls is
--- document 01's: `normalOf` is `compute_normal`, `exceededOf` the limit of rule 5, `clippedOf` the clip of rule 6, `minOf` Rust's `f32::min`. The contracts use
--- `sidePositionsOf` of `Record`; that the source's two calls, one to a side, leave the same is `source-same` in proofs/Source.antt. Assumes nothing.
+-- document 01's: `normalOf` is `compute_normal`, `tooLong` the limit of rule 5, `clippedOf` the clip of rule 6, u the normal over its length, `minOf` Rust's
+-- `f32::min`. The contracts use `sidePositionsOf` of `Record`; that the source's two calls, one to a side, leave the same wherever a side's normal is not zero, where
+-- document 02's W-208 decides, is `source-same` in proofs/Source.antt. Assumes nothing.
 use mathlib.Core.Path.{_≡_}
 use mathlib.Core.Bool.{Bool, true, false, not, _&&_, _||_}
 use mathlib.Core.Option.{Option, none, some}
@@ -19,7 +20,7 @@ use Rattle.endpoint.specs.declared.Side.{Side}
 use Rattle.endpoint.specs.declared.Side.the-variants.{Positive, Negative}
 use Rattle.endpoint.specs.declared.SidePoints.{SidePoints}
 use Rattle.join.specs.Clip.{clippedOf}
-use Rattle.join.specs.Side.{minOf, exceededOf}
+use Rattle.join.specs.Side.{minOf, tooLong}
 use Rattle.join.specs.declared.edge.Edge.{Edge}
 use Rattle.join.specs.declared.edge.EdgeSide.{EdgeSide}
 
@@ -93,14 +94,14 @@ computeJoinSidePositions prev join next «miter_limit» side =
     let concave = inward && «normal_same_side» && not (fold side) in
     pick (concave && «back_vertex_overshoots»)
     (set join (join .«side_points») fold (some side))
-    (pick (concave || ((isMiter (join .«line_join») || isMiterClip (join .«line_join»)) && not (exceededOf normal «miter_limit»)))
+    (pick (concave || ((isMiter (join .«line_join») || isMiterClip (join .«line_join»)) && not (tooLong normal «miter_limit»)))
     (let p = plusOf (join .position) (timesOf normal (join .«half_width»)) in
     let points = sourcePoints (join .«side_points» side .prev) (join .«side_points» side .next) (some p) in
     set join (put (join .«side_points») side points) fold (join .«inner_join»))
     (pick (isMiterClip (join .«line_join»))
     (let n0 = minusOf (join .«side_points» side .prev) (join .position) in
     let n1 = minusOf (join .«side_points» side .next) (join .position) in
-    let normals = clippedOf n0 n1 normal («miter_limit» ⊗ join .«half_width») in
+    let normals = clippedOf n0 n1 (normalizeOf normal) («miter_limit» ⊗ join .«half_width») in
     let points = sourcePoints (plusOf (join .position) (normals .prev)) (plusOf (join .position) (normals .next)) (join .«side_points» side .«single_vertex») in
     set join (put (join .«side_points») side points) fold (join .«inner_join»))
     (set join (join .«side_points») fold (join .«inner_join»))))
@@ -136,10 +137,10 @@ lastInner inner.Positive = some Positive
 lastInner inner.Negative = some Negative
 lastInner inner.Both = some Negative
 
--- a join's record as it is left, and the same in this crate's form
-pub record Same (join : SourceData) (e : EndpointData) : Type 0 where
-  pub positive : pointsIn (join .«side_points» Positive) ≡ e .positive
-  pub negative : pointsIn (join .«side_points» Negative) ≡ e .negative
+-- a join's record as it is left, and the same in this crate's form, but for the points of a side whose normal is zero
+pub record Same (zero : Side → Bool) (join : SourceData) (e : EndpointData) : Type 0 where
+  pub positive : zero Positive ≡ false → pointsIn (join .«side_points» Positive) ≡ e .positive
+  pub negative : zero Negative ≡ false → pointsIn (join .«side_points» Negative) ≡ e .negative
   pub «fold_positive» : join .fold Positive ≡ e .«fold_positive»
   pub «fold_negative» : join .fold Negative ≡ e .«fold_negative»
   pub «inner_join» : join .«inner_join» ≡ lastInner (e .«inner_join»)

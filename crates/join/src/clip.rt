@@ -8,7 +8,24 @@ use plane::vector::plus;
 use plane::vector::times;
 use plane::vector::turned;
 ghost use mathlib.Core.Path.{_≡_};
-ghost use Rattle.join.specs.Clip.{sideLineOf, unmovedOf, movedOf, clippedOf};
+ghost use Rattle.join.specs.Clip.{zeroOf, cutOf, sideLineOf, unmovedOf, movedOf, clippedOf};
+
+// A normal of no length: the side runs back along itself. -0 is zero too.
+pub fn is_zero(normal: Point) -> bool
+    ensures { λ r. ⌜ r ≡ zeroOf normal ⌝ }
+{
+    normal.x == 0.0 && normal.y == 0.0
+}
+
+// The direction in which a side is cut off: its normal's, or its own on the way in where it has no normal.
+pub fn cut_direction(v0: Point, normal: Point) -> Point
+    ensures { λ r. ⌜ r ≡ cutOf v0 normal ⌝ }
+{
+    if is_zero(normal) {
+        return v0;
+    }
+    normalize(normal)
+}
 
 // The line along which an offset moves: its own side's, a quarter turn from it.
 struct SideLine {
@@ -54,10 +71,9 @@ pub struct Clipped {
     pub next: Point,
 }
 
-pub fn get_clip_intersections(prev: Point, next: Point, normal: Point, distance: f32) -> Clipped
-    ensures { λ r. ⌜ r ≡ clippedOf prev next normal distance ⌝ }
+pub fn get_clip_intersections(prev: Point, next: Point, u: Point, distance: f32) -> Clipped
+    ensures { λ r. ⌜ r ≡ clippedOf prev next u distance ⌝ }
 {
-    let u = normalize(normal);
     Clipped {
         prev: moved(prev, side_line(prev), u, distance),
         next: moved(next, side_line(next), u, distance),

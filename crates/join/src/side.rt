@@ -1,6 +1,8 @@
 // Rule 5: one side of a join, by the branches of lyon's `compute_join_side_positions`. What is decided comes first, since it is all that
 // a count needs; the points follow from it.
+use crate::clip::cut_direction;
 use crate::clip::get_clip_intersections;
+use crate::clip::is_zero;
 use crate::edge::EdgeSide;
 use crate::logic::both;
 use crate::logic::either;
@@ -43,10 +45,11 @@ pub struct Corner {
     pub side: Side,
 }
 
-// Which of the source's branches a side takes: an inner join, a single point, points cut off at the limit, or the points beside the join.
+// Which of the source's branches a side takes: a single point, an inner join, points cut off at the limit, or the points beside the join. In this order a concave side's
+// kind is whether it overshoots, and `decide` is just small enough to be inlined.
 pub enum Kind {
-    Inner,
     Single,
+    Inner,
     Clipped,
     Beside,
 }
@@ -160,9 +163,13 @@ fn folds(inward: bool, overshoots: bool, c: Corner) -> bool
     false
 }
 
+// A zero normal is beyond every limit.
 fn miter_limit_is_exceeded(normal: Point, limit: f32) -> bool
     ensures { λ r. ⌜ r ≡ exceededOf normal limit ⌝ }
 {
+    if is_zero(normal) {
+        return true;
+    }
     square_length(normal) > limit * limit
 }
 
@@ -230,22 +237,23 @@ fn tip_point(normal: Point, e: Turn) -> SidePoints
 }
 
 // The points beside the join, cut off at the limit.
-fn clipped_pair(prev: Point, next: Point, normal: Point, e: Turn) -> SidePoints
-    ensures { λ r. ⌜ r ≡ clippedPairOf prev next normal e ⌝ }
+fn clipped_pair(prev: Point, next: Point, c: Corner, e: Turn) -> SidePoints
+    ensures { λ r. ⌜ r ≡ clippedPairOf prev next c e ⌝ }
 {
+    let u = cut_direction(c.v0, c.normal);
     let n0 = minus(prev, e.position);
     let n1 = minus(next, e.position);
-    let cut = get_clip_intersections(n0, n1, normal, e.limit * e.half_width);
+    let cut = get_clip_intersections(n0, n1, u, e.limit * e.half_width);
     pair(plus(e.position, cut.prev), plus(e.position, cut.next))
 }
 
-fn points_of(k: Kind, prev: Point, next: Point, normal: Point, e: Turn) -> SidePoints
-    ensures { λ r. ⌜ r ≡ pointsOf k prev next normal e ⌝ }
+fn points_of(k: Kind, prev: Point, next: Point, c: Corner, e: Turn) -> SidePoints
+    ensures { λ r. ⌜ r ≡ pointsOf k prev next c e ⌝ }
 {
     match k {
         Kind::Inner => pair(prev, next),
-        Kind::Single => tip_point(normal, e),
-        Kind::Clipped => clipped_pair(prev, next, normal, e),
+        Kind::Single => tip_point(c.normal, e),
+        Kind::Clipped => clipped_pair(prev, next, c, e),
         Kind::Beside => pair(prev, next),
     }
 }
@@ -268,7 +276,7 @@ pub fn join_side(c: Corner, prev: Point, next: Point, e: Turn) -> JoinSide
     let d = decide(c, e);
     let kind = d.kind;
     JoinSide {
-        points: points_of(kind, prev, next, c.normal, e),
+        points: points_of(kind, prev, next, c, e),
         fold: d.fold,
         inner: is_inner(kind),
     }

@@ -13,7 +13,8 @@ pub struct Options {
     // How far the tip of a join may lie from its point, in half widths: 1 to 1,024.
     pub miter_limit: f32,
     // The shape of a corner: 0 Miter, a tip, or beyond the limit a Bevel; 1 MiterClip, a tip, or
-    // beyond the limit one that is cut off there; 2 Bevel, the corner cut straight across.
+    // beyond the limit one that is cut off there; 2 Bevel, the corner cut straight across. A path
+    // that runs back along itself is beyond every limit.
     pub line_join: u32,
     // The shape of both ends of an open run: 0 Butt, ending at the point; 1 Square, half a width
     // beyond it.

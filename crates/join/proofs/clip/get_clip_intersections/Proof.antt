@@ -4,9 +4,6 @@ use borrow.Author.Needs.{needs}
 use Rattle.join.proofs.clip.get_clip_intersections.Statement.{statement}
 use Rattle.join.proofs.clip.get_clip_intersections.Tie as tie
 
-normalize-requires : tie.Need-normalize-requires
-normalize-requires c κs = search needs
-
 side-line-requires : tie.Need-side-line-requires
 side-line-requires c κs = search needs
 
@@ -21,13 +18,12 @@ moved-requires-2 c κs = search needs
 
 returns : tie.Need-returns
 unfolding clippedOf
-returns c = rw (c .moved2 .ensures, c .before .side-line2 .ensures, c .before .before .moved .ensures, c .before .before .before .side-line .ensures, c .before .before .before .before .normalize .ensures)
+returns c = rw (c .moved2 .ensures, c .before .side-line2 .ensures, c .before .before .moved .ensures, c .before .before .before .side-line .ensures)
 
 pub get-clip-intersections-spec : {M : Type 1} → statement M
 get-clip-intersections-spec =
     tie.close
     (tie.spec
-    normalize-requires
     side-line-requires
     moved-requires
     side-line-requires-2

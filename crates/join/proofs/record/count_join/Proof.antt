@@ -4,6 +4,7 @@ use Rattle.plane.specs.declared.vector.Point.{Point}
 use Rattle.endpoint.specs.Endpoint.{singleOf, pairOf, sideCountOf}
 use Rattle.join.specs.Side.{tipPointOf, clippedPairOf, pointsOf, kindCountOf, joinSideOf}
 use Rattle.join.specs.Record.{sidePositionsOf, countsOf}
+use Rattle.join.specs.declared.side.Corner.{Corner}
 use Rattle.join.specs.declared.side.Kind.{Kind}
 use Rattle.join.specs.declared.side.Kind.the-variants.{Inner, Single, Clipped, Beside}
 use Rattle.join.specs.declared.side.Turn.{Turn}
@@ -11,12 +12,12 @@ use borrow.Author.Needs.{needs}
 use Rattle.join.proofs.record.count_join.Statement.{statement}
 use Rattle.join.proofs.record.count_join.Tie as tie
 
-kind-count : (k : Kind) (prev next normal : Point) (e : Turn) → sideCountOf (pointsOf k prev next normal e) ≡ kindCountOf k
+kind-count : (k : Kind) (prev next : Point) (c : Corner) (e : Turn) → sideCountOf (pointsOf k prev next c e) ≡ kindCountOf k
 unfolding tipPointOf clippedPairOf singleOf pairOf
-kind-count Inner prev next normal e = refl
-kind-count Single prev next normal e = refl
-kind-count Clipped prev next normal e = refl
-kind-count Beside prev next normal e = refl
+kind-count Inner prev next c e = refl
+kind-count Single prev next c e = refl
+kind-count Clipped prev next c e = refl
+kind-count Beside prev next c e = refl
 
 turn-of-requires : tie.Need-turn-of-requires
 turn-of-requires c κs = search needs

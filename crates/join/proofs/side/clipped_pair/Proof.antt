@@ -4,6 +4,9 @@ use borrow.Author.Needs.{needs}
 use Rattle.join.proofs.side.clipped_pair.Statement.{statement}
 use Rattle.join.proofs.side.clipped_pair.Tie as tie
 
+cut-direction-requires : tie.Need-cut-direction-requires
+cut-direction-requires c κs = search needs
+
 minus-requires : tie.Need-minus-requires
 minus-requires c κs = search needs
 
@@ -24,12 +27,16 @@ pair-requires c κs = search needs
 
 returns : tie.Need-returns
 unfolding clippedPairOf
-returns c = rw (c .pair .ensures, c .before .plus2 .ensures, c .before .before .plus .ensures, c .before .before .before .get-clip-intersections .ensures, c .before .before .before .before .before .minus2 .ensures, c .before .before .before .before .before .before .minus .ensures)
+returns c =
+    let offset = c .before .before .before .before .before .before in
+    rw (c .pair .ensures, c .before .plus2 .ensures, c .before .before .plus .ensures, c .before .before .before .get-clip-intersections .ensures) (
+    rw (c .before .before .before .before .before .minus2 .ensures, offset .minus .ensures, offset .before .cut-direction .ensures))
 
 pub clipped-pair-spec : {M : Type 1} → statement M
 clipped-pair-spec =
     tie.close
     (tie.spec
+    cut-direction-requires
     minus-requires
     minus-requires-2
     get-clip-intersections-requires
