@@ -1,12 +1,12 @@
--- Document 01's points, P1 to P10, and a few beside them, W-201's among them, computed by the checker over the definitions: one statement over one list. Assumes nothing.
-use Prim.Native.Nat.{ℕ, _*_}
+-- Document 01's points, P1 to P10, and a few beside them, W-201's and W-208's among them, computed by the checker over the definitions: one statement over one list. Assumes nothing.
+use Prim.Native.Nat.{ℕ, _+_, _*_}
 use mathlib.Core.Path.{_≡_, refl}
 use mathlib.Core.Bool.{Bool, true, false, _&&_}
 use mathlib.Core.List.{List, [], _∷_, _++_, map}
 use lib.Count.{leadingZeros}
 use lib.Dec.{eqb}
-use lib.Ieee.{binary32, add, sub, mul, div, neg, lt, eq, ne, le, ofBits, toBits}
-use lib.ListN.{length, replicate}
+use lib.Ieee.{Float, nan, binary32, add, sub, mul, div, neg, lt, eq, ne, le, ofBits, toBits}
+use lib.ListN.{length, replicate, getD}
 use Rattle.plane.specs.F32.{f32}
 use Rattle.plane.specs.Normal.{normalOf, inDomain, computeNormalOf}
 use Rattle.endpoint.specs.Endpoint.{blankOf}
@@ -16,10 +16,10 @@ use Rattle.window.specs.Window.{lastThree, lastReplaced}
 use Rattle.root.specs.Compute.{rootAnswer, floorRoot, partsRoot, bitsRoot, rootOf}
 use Rattle.plane.specs.Vector.{point, plusOf, minusOf, timesOf, dividedOf, negatedOf, turnedOf, dotOf, crossOf, squareLengthOf, lengthOf, normalizeOf}
 use Rattle.endpoint.specs.Endpoint.{singleOf, pairOf}
-use Rattle.join.specs.Clip.{sideLineOf, unmovedOf, movedOf, clippedOf}
+use Rattle.join.specs.Clip.{zeroOf, cutOf, sideLineOf, unmovedOf, movedOf, clippedOf}
 use Rattle.join.specs.Edge.{edgeSideOf, edgeOf}
 use Rattle.join.specs.Record.{turnOf, innerJoinOf, sidePositionsOf}
-use Rattle.join.specs.Side.{cornerOf, inwardOf, minOf, pastOf, overshootsOf, foldedOf, foldsOf, exceededOf, tipOf, kindOf, decidedOf, tipPointOf, clippedPairOf, joinSideOf}
+use Rattle.join.specs.Side.{cornerOf, inwardOf, minOf, pastOf, overshootsOf, foldedOf, foldsOf, tooLong, exceededOf, tipOf, kindOf, decidedOf, tipPointOf, clippedPairOf, joinSideOf}
 use Rattle.vertices.specs.Base.{baseVertexOf, sideVerticesOf}
 use Rattle.vertices.specs.Cap.{capVertexOf, capPairOf, capVerticesOf}
 use Rattle.vertices.specs.Vertex.{vertexOf, triangleOf}
@@ -86,6 +86,8 @@ after xs (replaceLast k ∷ cs) = after (lastReplaced xs (numbered k)) cs
 pub data Case : Type 0 where
   -- verbs and the patterns of the coordinates; how many vertices and triangles there is room for; then the number, the place and both counts
   mesh : Pen → List ℕ → List ℕ → ℕ → ℕ → ℕ → ℕ → ℕ → ℕ → Case
+  -- verbs and the patterns of the coordinates; how many vertices and triangles there are; then a vertex's number and the patterns of its place
+  stands : Pen → List ℕ → List ℕ → ℕ → ℕ → ℕ → ℕ → ℕ → Case
   -- the patterns of the merge range and of an open run's coordinates, and how many of its points are kept
   keeps : ℕ → List ℕ → ℕ → Case
   -- calls on a new window, and the endpoints that it then reads at 0, 1 and 2
@@ -98,10 +100,16 @@ pub data Case : Type 0 where
 reads : List EndpointData → ℕ → ℕ → Bool
 reads xs i k = eqb (gotOf xs i .endpoint .id .0) k
 
+hasBits : List Float → ℕ → ℕ → Bool
+hasBits xs i b = eqb (toBits binary32 (getD xs i nan)) b
+
 says : Case → Bool
 says (mesh p vs cs nv nt number place n m) =
     let a = outcomeOf vs (map f32 cs) (optionsOf p) (lent (replicate (5 * nv) (f32 0)) (replicate (3 * nt) 0)) .answer in
     eqb (a .number) number && eqb (a .place) place && (eqb (a .vertices) n && eqb (a .triangles) m)
+says (stands p vs cs n m i x y) =
+    let o = outcomeOf vs (map f32 cs) (optionsOf p) (lent (replicate (5 * n) (f32 0)) (replicate (3 * m) 0)) in
+    eqb (o .answer .number) 0 && (hasBits (o .lists .vertices) (5 * i) x && hasBits (o .lists .vertices) (5 * i + 1) y)
 says (keeps r cs n) = eqb (length (keptPoints (preparedOf (optionsOf (merging r)) .near) false (endpointsOf 0 (map f32 cs)))) n
 says (window cs a b c) = let xs = after [] cs in reads xs 0 a && (reads xs 1 b && reads xs 2 c)
 says (root x number r) = let a = rootAnswer (f32 x) in eqb (a .number) number && eqb (toBits binary32 (a .value)) r
@@ -152,7 +160,12 @@ cases =
     ∷ mesh (pen 0 0) (begin ∷ line ∷ line ∷ endOpen ∷ []) (0 ∷ 0 ∷ 0x42c80000 ∷ 0 ∷ 0x42c80000 ∷ 0x42c80000 ∷ []) 6 4 0 0 6 4
     ∷ mesh (pen 2 0) (begin ∷ line ∷ line ∷ endOpen ∷ []) (0 ∷ 0 ∷ 0x42c80000 ∷ 0 ∷ 0x42c80000 ∷ 0x42c80000 ∷ []) 7 5 0 0 7 5
     ∷ mesh (pen 2 0) (begin ∷ line ∷ endClosed ∷ []) (0 ∷ 0 ∷ 0x42c80000 ∷ 0 ∷ []) 8 8 0 0 8 8
-    ∷ mesh (pen 0 0) (begin ∷ line ∷ endClosed ∷ []) (0 ∷ 0 ∷ 0x42c80000 ∷ 0 ∷ []) 4 4 0 0 4 4
+    ∷ mesh (pen 0 0) (begin ∷ line ∷ endClosed ∷ []) (0 ∷ 0 ∷ 0x42c80000 ∷ 0 ∷ []) 8 8 0 0 8 8
+    -- W-208: the same with MiterClip: 8 and 8, from x = -4 to x = 104; (0,0), (100,0), (0,0.9) open, Miter: 8 and 6
+    ∷ mesh (pen 1 0) (begin ∷ line ∷ endClosed ∷ []) (0 ∷ 0 ∷ 0x42c80000 ∷ 0 ∷ []) 8 8 0 0 8 8
+    ∷ stands (pen 1 0) (begin ∷ line ∷ endClosed ∷ []) (0 ∷ 0 ∷ 0x42c80000 ∷ 0 ∷ []) 8 8 0 0x42d00000 0x3f800000
+    ∷ stands (pen 1 0) (begin ∷ line ∷ endClosed ∷ []) (0 ∷ 0 ∷ 0x42c80000 ∷ 0 ∷ []) 8 8 4 0xc0800000 0xbf800000
+    ∷ mesh (pen 0 0) (begin ∷ line ∷ line ∷ endOpen ∷ []) (0 ∷ 0 ∷ 0x42c80000 ∷ 0 ∷ 0 ∷ 0x3f666666 ∷ []) 8 6 0 0 8 6
     -- W-201: range 0.15, (0,0), (0.12,0.09): two points kept; range 0.5, (0,0), (0.6,0): two; (0,0), (0.4,0): one
     ∷ keeps 0x3e19999a (0 ∷ 0 ∷ 0x3df5c28f ∷ 0x3db851ec ∷ []) 2 ∷ keeps 0x3f000000 (0 ∷ 0 ∷ 0x3f19999a ∷ 0 ∷ []) 2 ∷ keeps 0x3f000000 (0 ∷ 0 ∷ 0x3ecccccd ∷ 0 ∷ []) 1
     -- W-201: (0,0), (10,0), (10,10), (0.9,0), (0,0.9), closed: 6 and 6 at range 1, 10 and 10 at 1/128
@@ -170,7 +183,7 @@ unfolding plusOf minusOf timesOf dividedOf negatedOf turnedOf dotOf crossOf squa
 vectors = tt
 
 joins : Unit {0}
-unfolding singleOf pairOf sideLineOf unmovedOf movedOf clippedOf edgeSideOf edgeOf cornerOf inwardOf minOf pastOf overshootsOf foldedOf foldsOf exceededOf tipOf kindOf decidedOf tipPointOf clippedPairOf joinSideOf turnOf innerJoinOf sidePositionsOf
+unfolding singleOf pairOf zeroOf cutOf sideLineOf unmovedOf movedOf clippedOf edgeSideOf edgeOf cornerOf inwardOf minOf pastOf overshootsOf foldedOf foldsOf tooLong exceededOf tipOf kindOf decidedOf tipPointOf clippedPairOf joinSideOf turnOf innerJoinOf sidePositionsOf
 joins = tt
 
 vertices : Unit {0}
@@ -190,7 +203,7 @@ unfolding vertexCount jointVerticesOf verticesOf sections flat different triOf b
 meshes = tt
 
 pub worked : every cases ≡ true
-unfolding every says cases reads after gotOf lastThree lastReplaced computeNormalOf inDomain arithmetic vectors joins vertices paths runs meshes
+unfolding every says hasBits cases reads after gotOf lastThree lastReplaced computeNormalOf inDomain arithmetic vectors joins vertices paths runs meshes
 worked = refl
 
 -- the program's example, `M0 1L2 1`: its four vertices, with their normals and advancements, and its triangles
