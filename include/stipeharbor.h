@@ -47,7 +47,8 @@ enum stipeharbor_number {
 #define STIPEHARBOR_END_OPEN 2
 #define STIPEHARBOR_END_CLOSED 3
 
-/* Line joins: a tip, or beyond the limit a bevel; a tip, or beyond the limit one that is cut off there; the corner cut straight across. */
+/* Line joins: a tip, or beyond the limit a bevel; a tip, or beyond the limit one that is cut off there; the corner cut straight across.
+ * A path that runs back along itself has no tip: it is beyond every limit. */
 #define STIPEHARBOR_MITER 0
 #define STIPEHARBOR_MITER_CLIP 1
 #define STIPEHARBOR_BEVEL 2

@@ -50,7 +50,7 @@ pub const MERGE_RANGE_LEAST: f32 = 0.007_812_5;
 /// The greatest merge range.
 pub const MERGE_RANGE_MOST: f32 = 1.0;
 
-/// The shape of a corner.
+/// The shape of a corner. A path that runs back along itself is beyond every limit.
 #[derive(Clone, Copy, Debug, PartialEq, Eq)]
 pub enum Join {
     /// A tip, or beyond the limit a bevel.
