@@ -1,6 +1,6 @@
 //! One answer to each line, over either implementation of the routines.
 
-use crate::case::{widened, Case, JoinCase, MeshCase, NarrowCase, Op, ReadCase};
+use crate::case::{widened, Case, JoinCase, ListCase, MeshCase, NarrowCase, Op, ReadCase};
 use crate::case::{StlReadCase, StlWriteCase, WidenCase};
 use crate::endpoint::{Endpoint, EndpointId, LineJoin, Points, NEGATIVE, POSITIVE};
 use crate::line::{filled_floats, filled_numbers, float_word, Line};
@@ -10,7 +10,7 @@ use crate::plane::{point, vector};
 use crate::routines::Routines;
 use crate::vertices::Mesh;
 use crate::window::Window;
-use crate::{mesh, normal, reader, root, stl, widths};
+use crate::{inspect, mesh, normal, reader, root, stl, widths};
 
 /// The answer to a line, without line feeds on either.
 pub fn answer<R: Routines>(line: &[u8]) -> String {
@@ -33,6 +33,8 @@ pub fn answer_case<R: Routines>(case: &Case) -> String {
         Case::StlRead(case) => answer_stl_read(case),
         Case::Widen(case) => answer_widen(case),
         Case::Narrow(case) => answer_narrow(case),
+        Case::Check(case) => answer_list("check", inspect::check, case),
+        Case::Attached(case) => answer_list("attached", inspect::attached, case),
     }
 }
 
@@ -192,6 +194,16 @@ fn answer_narrow(case: &NarrowCase) -> String {
     let mut list = filled_numbers(case.length);
     let answer = widths::narrow(&case.numbers, &mut list);
     counted("narrow", answer).numbers(&widened(&list)).done()
+}
+
+type Question = fn(usize, &[u32]) -> Result<(), Refusal>;
+
+fn answer_list(kind: &str, question: Question, case: &ListCase) -> String {
+    let (number, place) = match question(case.count, &case.list) {
+        Ok(()) => (0, 0),
+        Err(refusal) => (refusal.number, refusal.place),
+    };
+    Line::new(kind).number(number as usize).number(place).done()
 }
 
 /// One count, which a refusal does not carry.

@@ -25,6 +25,8 @@ pub enum Case {
     StlRead(StlReadCase),
     Widen(WidenCase),
     Narrow(NarrowCase),
+    Check(ListCase),
+    Attached(ListCase),
 }
 
 #[derive(Clone, Debug, PartialEq)]
@@ -68,6 +70,13 @@ pub struct NarrowCase {
     pub numbers: Vec<u32>,
 }
 
+/// A vertex count and an index list.
+#[derive(Clone, Debug, PartialEq)]
+pub struct ListCase {
+    pub count: usize,
+    pub list: Vec<u32>,
+}
+
 #[derive(Clone, Copy, Debug, PartialEq, Eq)]
 pub enum Op {
     Push(usize),
@@ -107,6 +116,8 @@ impl Case {
             b"stlread" => Case::StlRead(stl_read(&mut words)?),
             b"widen" => Case::Widen(widen(&mut words)?),
             b"narrow" => Case::Narrow(narrow(&mut words)?),
+            b"check" => Case::Check(list(&mut words)?),
+            b"attached" => Case::Attached(list(&mut words)?),
             _ => return None,
         };
         words.end()?;
@@ -148,6 +159,8 @@ impl Case {
                 .number(case.length)
                 .numbers(&case.numbers)
                 .done(),
+            Case::Check(case) => list_line("check", case),
+            Case::Attached(case) => list_line("attached", case),
         }
     }
 }
@@ -227,6 +240,20 @@ fn wide(words: &mut Words) -> Option<u32> {
 /// The same numbers, as lines print them.
 pub fn widened(numbers: &[u16]) -> Vec<u32> {
     numbers.iter().map(|&n| n.into()).collect()
+}
+
+fn list(words: &mut Words) -> Option<ListCase> {
+    Some(ListCase {
+        count: words.number(usize::MAX)?,
+        list: words.list(wide)?,
+    })
+}
+
+fn list_line(kind: &str, case: &ListCase) -> String {
+    Line::new(kind)
+        .number(case.count)
+        .numbers(&case.list)
+        .done()
 }
 
 fn op(word: &[u8]) -> Option<Op> {

@@ -3,7 +3,7 @@
 //!
 //! From the leaves up: `plane`, `root`, `normal`, `endpoint`, `window`, `edge`, `join`,
 //! `vertices` (the reading of the routines), `routines` (what the driver asks of them), `path`,
-//! `strip`, `mesh` (the driver), `decimal`, `reader`, `program`, `stl`, `widths`. `shim` and `text` hold the cut text.
+//! `strip`, `mesh` (the driver), `decimal`, `reader`, `program`, `stl`, `widths`, `inspect`. `shim` and `text` hold the cut text.
 //! `line`, `case`, `answer` are the cases and answers, `gen` makes cases.
 
 pub mod answer;
@@ -12,6 +12,7 @@ pub mod decimal;
 pub mod edge;
 pub mod endpoint;
 pub mod gen;
+pub mod inspect;
 pub mod join;
 pub mod line;
 pub mod mesh;

@@ -3,6 +3,7 @@
 
 mod bad;
 mod big;
+mod indices;
 mod joins;
 mod meshes;
 mod paths;
@@ -14,6 +15,7 @@ mod texts;
 mod widths;
 
 pub use big::big;
+pub use indices::{any_list, large};
 pub use rng::{ulps, Rng};
 pub use stl::{damaged, sound};
 
@@ -32,6 +34,8 @@ pub enum Kind {
     StlRead,
     Widen,
     Narrow,
+    Check,
+    Attached,
     Bad,
     All,
 }
@@ -50,6 +54,8 @@ impl Kind {
             "stlread" => Some(Kind::StlRead),
             "widen" => Some(Kind::Widen),
             "narrow" => Some(Kind::Narrow),
+            "check" => Some(Kind::Check),
+            "attached" => Some(Kind::Attached),
             "bad" => Some(Kind::Bad),
             "all" => Some(Kind::All),
             _ => None,
@@ -80,6 +86,8 @@ pub fn case(rng: &mut Rng, kind: Kind) -> Case {
         Kind::StlRead => Case::StlRead(stl::read(rng)),
         Kind::Widen => Case::Widen(widths::widen(rng)),
         Kind::Narrow => Case::Narrow(widths::narrow(rng)),
+        Kind::Check => Case::Check(indices::indices(rng)),
+        Kind::Attached => Case::Attached(indices::indices(rng)),
         Kind::Bad | Kind::All => {
             let kind = rng.pick(&[
                 Kind::Mesh,
@@ -95,6 +103,8 @@ pub fn case(rng: &mut Rng, kind: Kind) -> Case {
                 Kind::StlRead,
                 Kind::Widen,
                 Kind::Narrow,
+                Kind::Check,
+                Kind::Attached,
             ]);
             case(rng, kind)
         }

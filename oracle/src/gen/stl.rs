@@ -85,7 +85,7 @@ pub fn sound(rng: &mut Rng) -> StlWriteCase {
 }
 
 /// What the mesh call writes of a path.
-fn drawn_mesh(rng: &mut Rng) -> (Vec<f32>, Vec<u32>) {
+pub fn drawn_mesh(rng: &mut Rng) -> (Vec<f32>, Vec<u32>) {
     let path = path(rng);
     let options = options(rng, &path);
     let path = Path {

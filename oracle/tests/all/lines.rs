@@ -7,7 +7,7 @@ use oracle::line::{filled_floats, filled_numbers};
 use std::io::Write;
 use std::process::{Command, Stdio};
 
-const KINDS: [Kind; 9] = [
+const KINDS: [Kind; 11] = [
     Kind::Mesh,
     Kind::Read,
     Kind::Root,
@@ -17,6 +17,8 @@ const KINDS: [Kind; 9] = [
     Kind::Cap,
     Kind::StlWrite,
     Kind::StlRead,
+    Kind::Check,
+    Kind::Attached,
 ];
 
 #[test]
@@ -40,7 +42,7 @@ fn bad_lines_are_bad() {
     }
 }
 
-const ANSWERS: [(&str, &str); 16] = [
+const ANSWERS: [(&str, &str); 18] = [
     ("root 40000000", "root 0 0 3FB504F3"),
     ("root 7FC00000", "root 13 0 00000000"),
     ("root 80000000", "root 13 0 00000000"),
@@ -80,6 +82,8 @@ const ANSWERS: [(&str, &str); 16] = [
     ),
     ("read 1 2 4D312032", "read 11 0 0 0 03 2 3E800000 3FA00000"),
     ("read 1 0 4D31", "read 9 2 0 0 03 0"),
+    ("check 9999999999 3 0 1 4294967295", "check 23 2"),
+    ("attached 6 6 0 1 2 3 4 5", "attached 24 1"),
 ];
 
 #[test]
@@ -104,6 +108,7 @@ fn ranges_of_the_format() {
         "mesh 3F800000 40800000 255 255 3C000000 81920 49152 - 0",
         "window 2 p9999 g9",
         "root 0000000A",
+        "check 9999999999 0",
         "join 3F800000 40800000 2 00000000 00000000 00000000 3F800000 00000000 3F800000 3F800000 3F800000 40000000",
     ];
     for line in good {
@@ -123,6 +128,8 @@ fn ranges_of_the_format() {
         "mesh 3F800000 40800000 0 0 3C000000 0 0  0",
         "window 1 p10000",
         "window 1 g10",
+        "check 3 1 4294967296",
+        "attached 3 3 0 1",
         "root 0000000a",
         "root 7FC00001",
         "join 3F800000 40800000 3 00000000 00000000 00000000 3F800000 00000000 3F800000 3F800000 3F800000 40000000",

@@ -7,6 +7,7 @@ mod decimal;
 mod facts;
 mod form;
 mod hairpin;
+mod inspect;
 mod kept;
 mod lines;
 mod open_points;
