@@ -42,6 +42,16 @@ pub data Meaning : Type 0 where
   listRoom : Meaning
   -- W-205: "a number too large to narrow"
   wideNumber : Meaning
+  -- W-211: "length"
+  listLength : Meaning
+  -- "number too large"
+  numberTooLarge : Meaning
+  -- "two alike"
+  twoAlike : Meaning
+  -- "vertex unnamed"
+  vertexUnnamed : Meaning
+  -- "not attached"
+  notAttached : Meaning
 
 abbrev pub numberOf : Meaning → ℕ
 numberOf accepted = 0
@@ -62,6 +72,11 @@ numberOf fileLength = 15
 numberOf badCorner = 16
 numberOf listRoom = 17
 numberOf wideNumber = 18
+numberOf listLength = 20
+numberOf numberTooLarge = 21
+numberOf twoAlike = 22
+numberOf vertexUnnamed = 23
+numberOf notAttached = 24
 
 -- a row of the table, with its place
 abbrev pub verdict : Meaning → ℕ → Verdict

@@ -40,6 +40,16 @@ pub const LIST_ROOM: u32 = 17;
 
 pub const WIDE_NUMBER: u32 = 18;
 
+pub const LIST_LENGTH: u32 = 20;
+
+pub const NUMBER_TOO_LARGE: u32 = 21;
+
+pub const TWO_ALIKE: u32 = 22;
+
+pub const VERTEX_UNNAMED: u32 = 23;
+
+pub const NOT_ATTACHED: u32 = 24;
+
 // Refusals 1 to 4: what is wrong with the options or the path of a call.
 pub enum Refusal {
     // An option outside its range.
