@@ -3,6 +3,7 @@ use case_answers::cap_case;
 use case_answers::join_case;
 use case_answers::normal_case;
 use case_answers::root_case;
+use case_inspect::Question;
 use lines::words::Place;
 use lines::words::next_word;
 use printing::buffer::Buffer;
@@ -27,6 +28,8 @@ pub fn answer(line: &[u8], out: &mut Buffer, p: Printed) -> Printed {
         Kind::StlRead => case_stl::reading::answer(line, rest, out, p),
         Kind::Widen => case_widths::widening::answer(line, rest, out, p),
         Kind::Narrow => case_widths::narrowing::answer(line, rest, out, p),
+        Kind::Check => case_inspect::answer(Question::Check, line, rest, out, p),
+        Kind::Attached => case_inspect::answer(Question::Attached, line, rest, out, p),
         Kind::None => bad_line(out, p),
     }
 }
@@ -43,6 +46,8 @@ enum Kind {
     StlRead,
     Widen,
     Narrow,
+    Check,
+    Attached,
     None,
 }
 
@@ -79,6 +84,12 @@ fn kind_of(word: &[u8]) -> Kind {
     }
     if check::same(word, b"narrow") {
         return Kind::Narrow;
+    }
+    if check::same(word, b"check") {
+        return Kind::Check;
+    }
+    if check::same(word, b"attached") {
+        return Kind::Attached;
     }
     Kind::None
 }

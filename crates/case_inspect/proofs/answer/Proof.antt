@@ -1,0 +1,47 @@
+-- `case_inspect::answer` is safe: what is read is no longer than the room. Assumes nothing.
+use borrow.Author.Needs.{needs}
+use mathlib.Core.Path.{sym}
+use lib.Seq.{length-take-le}
+use Rattle.case_inspect.proofs.answer.Statement.{statement}
+use Rattle.case_inspect.proofs.answer.Tie as tie
+
+slice-aggregate-read-list : tie.Need-slice-aggregate-read-list
+slice-aggregate-read-list c = search needs
+
+read-list-requires : tie.Need-read-list-requires
+read-list-requires c κs = search needs
+
+is-end-requires : tie.Need-is-end-requires
+is-end-requires c κs = search needs
+
+bad-line-requires : tie.Need-bad-line-requires
+bad-line-requires c κs = search needs
+
+returns : tie.Need-returns
+returns c = search needs
+
+array-share-prefix-list : tie.Need-array-share-prefix-list
+array-share-prefix-list c = search needs
+
+slice-aggregate-answer-call : tie.Need-slice-aggregate-answer-call
+slice-aggregate-answer-call c = let read = c .before .before .before .before .before .read-list in sym (length-take-le (read .result .length) (read .last .1 .1 .0) (array-share-prefix-list (c .before)))
+
+answer-call-requires : tie.Need-answer-call-requires
+answer-call-requires c κs = search needs
+
+returns-2 : tie.Need-returns-2
+returns-2 c = search needs
+
+pub answer-spec : {M : Type 1} → statement M
+answer-spec =
+    tie.close
+    (tie.spec
+    slice-aggregate-read-list
+    read-list-requires
+    is-end-requires
+    bad-line-requires
+    returns
+    array-share-prefix-list
+    slice-aggregate-answer-call
+    answer-call-requires
+    returns-2)
