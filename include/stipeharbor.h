@@ -4,7 +4,7 @@
  * - the pointer is aligned for its type and valid for as many elements; of a list of length 0 it is not used, and may be NULL;
  * - a list that a call may write shares no memory with another list of that call, and nobody else touches a lent list while the call runs.
  * Nothing else is asked: any bytes, any floats and any lengths have an answer. No call allocates, keeps a pointer or uses a global; of the C library the archive
- * needs memcpy alone.
+ * needs memcpy and memset at most.
  *
  * Each call returns 0 or the number of one refusal. A refusal leaves every list as it was, but for the last one, the answer's own. That one is written as
  * far as it goes: one that is too short gets the first numbers, and a longer one keeps what it has behind them.
@@ -38,7 +38,12 @@ enum stipeharbor_number {
     STIPEHARBOR_FILE_LENGTH = 15,   /* the STL file is not as long as its count of triangles says */
     STIPEHARBOR_CORNER = 16,        /* the triangle at the place has a corner that is not finite, a z that is not zero or, in writing, a number that has no vertex */
     STIPEHARBOR_LIST_ROOM = 17,     /* the list is too short for the STL file's corners, or to widen or narrow into */
-    STIPEHARBOR_WIDE_NUMBER = 18    /* the number at the place is above STIPEHARBOR_NARROW_MOST */
+    STIPEHARBOR_WIDE_NUMBER = 18,   /* the number at the place is above STIPEHARBOR_NARROW_MOST */
+    STIPEHARBOR_LIST_LENGTH = 20,   /* the index list's length is no multiple of three */
+    STIPEHARBOR_NUMBER_TOO_LARGE = 21, /* the number at the place of the index list is not below the vertex count */
+    STIPEHARBOR_TWO_ALIKE = 22,     /* the triangle at the place names a vertex twice */
+    STIPEHARBOR_VERTEX_UNNAMED = 23, /* the vertex at the place is named by no triangle; it is the smallest */
+    STIPEHARBOR_NOT_ATTACHED = 24   /* the triangle at the place shares exactly two vertices with none before it */
 };
 
 /* Verbs. A begin and a line have two coordinates each. */
@@ -146,6 +151,25 @@ uint32_t stipeharbor_widen(
 uint32_t stipeharbor_narrow(
     const uint32_t *numbers, size_t numbers_len,
     uint16_t *narrowed, size_t narrowed_len,
+    size_t *answer, size_t answer_len);
+
+/* Whether an index list from elsewhere, three numbers to a triangle, is one over `count` vertices: its length is a multiple of three, every number is below the count, each
+ * triangle's three differ, and every vertex is named. Refusals 20 to 23, the first fault in that order. Every mesh that stipeharbor_tessellate writes passes.
+ * It takes three looks at each number, and one more for each 262,144 vertices beyond the first so many: its marks are 32 KiB of the stack, whatever the list.
+ * `answer` gets the place (of 21 to 23, else 0). */
+uint32_t stipeharbor_check(
+    size_t count,
+    const uint32_t *list, size_t list_len,
+    size_t *answer, size_t answer_len);
+
+/* The same, and then whether each triangle but the first shares exactly two vertices with some earlier one: refusal 24. It is so of a mesh of stipeharbor_tessellate where at
+ * most one run is drawn, and of each run by itself; two runs have no vertex in common, and the second's first triangle is 24.
+ * Earlier triangles are looked at from the latest on, so that a mesh of this library takes one look at each. A list made to be slow takes n * (n - 1) / 2 looks at its n
+ * triangles: 40,000 of them some seconds, 200,000 more than a minute. Whoever takes lists from strangers asks first how long they are.
+ * `answer` gets the place (of 21 to 24, else 0). */
+uint32_t stipeharbor_check_attached(
+    size_t count,
+    const uint32_t *list, size_t list_len,
     size_t *answer, size_t answer_len);
 
 #ifdef __cplusplus

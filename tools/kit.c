@@ -96,6 +96,21 @@ static void widths(void)
     expect(stipeharbor_widen(NULL, 0, NULL, 0, NULL, 0) == STIPEHARBOR_ACCEPTED && stipeharbor_narrow(NULL, 0, NULL, 0, NULL, 0) == STIPEHARBOR_ACCEPTED, "no numbers are a list");
 }
 
+/* W-211's traps, the place as far as its list goes. */
+static void lists(void)
+{
+    static const uint32_t two[] = {0, 1, 2, 2, 1, 0}, large[] = {0, 0, 9};
+    size_t answer[2] = {UNTOUCHED, UNTOUCHED};
+    expect(stipeharbor_check(0, NULL, 0, NULL, 0) == STIPEHARBOR_ACCEPTED, "no triangles are a mesh of no vertices");
+    expect(stipeharbor_check(SIZE_MAX, NULL, 0, answer, 2) == STIPEHARBOR_VERTEX_UNNAMED && answer[0] == 0 && answer[1] == UNTOUCHED, "of the most vertices the first is unnamed");
+    expect(stipeharbor_check(9, two, 4, answer, 1) == STIPEHARBOR_LIST_LENGTH && answer[0] == 0, "four numbers are no triangles");
+    expect(stipeharbor_check(3, large, 3, answer, 1) == STIPEHARBOR_NUMBER_TOO_LARGE && answer[0] == 2, "too large comes before two alike");
+    expect(stipeharbor_check(10, large, 3, answer, 1) == STIPEHARBOR_TWO_ALIKE && answer[0] == 0, "two alike come before a vertex unnamed");
+    expect(stipeharbor_check_attached(4, two, 3, answer, 1) == STIPEHARBOR_VERTEX_UNNAMED && answer[0] == 3, "the second question asks the first");
+    expect(stipeharbor_check(3, two, 6, answer, 1) == STIPEHARBOR_ACCEPTED && answer[0] == 0, "a triangle twice is sound");
+    expect(stipeharbor_check_attached(3, two, 6, answer, 1) == STIPEHARBOR_NOT_ATTACHED && answer[0] == 1, "and shares three, not two");
+}
+
 int main(void)
 {
     short_answers();
@@ -103,5 +118,6 @@ int main(void)
     values();
     stl();
     widths();
+    lists();
     return failures != 0;
 }

@@ -1,4 +1,4 @@
-//! The proved library's eight calls in safe Rust. A path goes in; the mesh of its stripe or one
+//! The proved library's ten calls in safe Rust. A path goes in; the mesh of its stripe or one
 //! [`Refusal`] comes out.
 //!
 //! ```
@@ -213,4 +213,22 @@ pub fn narrow(numbers: &[u32], narrowed: &mut [u16]) -> Result<usize, Refusal> {
     let number = raw::narrow(numbers, narrowed, &mut answer);
     let [place, count] = answer;
     Refusal::or(number, place, 0, 0).map(|()| count)
+}
+
+/// Whether an index list from elsewhere is one of triangles over all of `count` vertices: three
+/// numbers to a triangle, each below the count, the three of a triangle different, every vertex
+/// named. Every mesh that [`tessellate`] writes passes.
+pub fn check(count: usize, list: &[u32]) -> Result<(), Refusal> {
+    let mut answer = [0];
+    let number = raw::check(count, list, &mut answer);
+    Refusal::or(number, answer[0], 0, 0)
+}
+
+/// [`check`], and then whether each triangle but the first shares exactly two vertices with some
+/// earlier one. It is so of a mesh of one drawn run, and not so of two.
+/// A list made to be slow takes time by the square of its length.
+pub fn check_attached(count: usize, list: &[u32]) -> Result<(), Refusal> {
+    let mut answer = [0];
+    let number = raw::check_attached(count, list, &mut answer);
+    Refusal::or(number, answer[0], 0, 0)
 }

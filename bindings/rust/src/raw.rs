@@ -1,4 +1,4 @@
-//! The eight calls as C has them, on slices: each returns the number, and writes what it stands for
+//! The ten calls as C has them, on slices: each returns the number, and writes what it stands for
 //! over the start of its last list, as far as that goes. Joins and caps are numbers here, any at
 //! all. No other file has `unsafe`.
 
@@ -70,6 +70,20 @@ extern "C" {
         numbers_len: usize,
         narrowed: *mut u16,
         narrowed_len: usize,
+        answer: *mut usize,
+        answer_len: usize,
+    ) -> u32;
+    fn stipeharbor_check(
+        count: usize,
+        list: *const u32,
+        list_len: usize,
+        answer: *mut usize,
+        answer_len: usize,
+    ) -> u32;
+    fn stipeharbor_check_attached(
+        count: usize,
+        list: *const u32,
+        list_len: usize,
         answer: *mut usize,
         answer_len: usize,
     ) -> u32;
@@ -205,4 +219,18 @@ pub fn narrow(numbers: &[u32], narrowed: &mut [u16], answer: &mut [usize]) -> u3
             answer.len(),
         )
     }
+}
+
+/// `answer` gets the place.
+pub fn check(count: usize, list: &[u32], answer: &mut [usize]) -> u32 {
+    let (at, length) = (answer.as_mut_ptr(), answer.len());
+    // SAFETY: each pair is a live slice's; the one that is written is an exclusive borrow.
+    unsafe { stipeharbor_check(count, list.as_ptr(), list.len(), at, length) }
+}
+
+/// `answer` gets the place.
+pub fn check_attached(count: usize, list: &[u32], answer: &mut [usize]) -> u32 {
+    let (at, length) = (answer.as_mut_ptr(), answer.len());
+    // SAFETY: each pair is a live slice's; the one that is written is an exclusive borrow.
+    unsafe { stipeharbor_check_attached(count, list.as_ptr(), list.len(), at, length) }
 }

@@ -73,6 +73,28 @@ pub enum Refusal {
         /// Which number.
         place: usize,
     },
+    /// 20: the index list's length is no multiple of three.
+    ListLength,
+    /// 21: the number at the place of the index list is not below the vertex count.
+    NumberTooLarge {
+        /// Its index.
+        place: usize,
+    },
+    /// 22: the triangle at the place names a vertex twice.
+    TwoAlike {
+        /// Which triangle.
+        place: usize,
+    },
+    /// 23: the vertex at the place is named by no triangle.
+    VertexUnnamed {
+        /// The smallest such vertex.
+        place: usize,
+    },
+    /// 24: the triangle at the place shares exactly two vertices with none before it.
+    NotAttached {
+        /// Which triangle.
+        place: usize,
+    },
 }
 
 impl Refusal {
@@ -107,6 +129,11 @@ impl Refusal {
             16 => Refusal::Corner { place },
             17 => Refusal::ListRoom,
             18 => Refusal::WideNumber { place },
+            20 => Refusal::ListLength,
+            21 => Refusal::NumberTooLarge { place },
+            22 => Refusal::TwoAlike { place },
+            23 => Refusal::VertexUnnamed { place },
+            24 => Refusal::NotAttached { place },
             _ => unreachable!("the library is proved to answer no other number"),
         })
     }
@@ -130,6 +157,11 @@ impl Refusal {
             Refusal::Corner { .. } => 16,
             Refusal::ListRoom => 17,
             Refusal::WideNumber { .. } => 18,
+            Refusal::ListLength => 20,
+            Refusal::NumberTooLarge { .. } => 21,
+            Refusal::TwoAlike { .. } => 22,
+            Refusal::VertexUnnamed { .. } => 23,
+            Refusal::NotAttached { .. } => 24,
         }
     }
 
@@ -141,7 +173,11 @@ impl Refusal {
             | Refusal::OutOfForm { place }
             | Refusal::TooLarge { place }
             | Refusal::Corner { place }
-            | Refusal::WideNumber { place } => place,
+            | Refusal::WideNumber { place }
+            | Refusal::NumberTooLarge { place }
+            | Refusal::TwoAlike { place }
+            | Refusal::VertexUnnamed { place }
+            | Refusal::NotAttached { place } => place,
             _ => 0,
         }
     }

@@ -1,6 +1,6 @@
 //! Each refusal, on its smallest input, and what an accepted call answers.
 
-use stipeharbor::{compute_normal, read, root, tessellate};
+use stipeharbor::{check, check_attached, compute_normal, read, root, tessellate};
 use stipeharbor::{narrow, stl_corners, stl_file, stl_read, stl_write, widen};
 use stipeharbor::{Cap, Join, Mesh, Options, Path, Refusal, BEGIN, END_CLOSED, END_OPEN, LINE};
 use stipeharbor::{MERGE_RANGE_LEAST, MERGE_RANGE_MOST, TEXT_LIMIT};
@@ -154,6 +154,42 @@ fn of_stl() {
     high[104] = 1;
     assert_eq!(stl_corners(&high), Err(Refusal::Corner { place: 0 }));
     assert_eq!(stl_corners(&[0; 84]), Ok(Vec::new()));
+}
+
+#[test]
+fn of_an_index_list() {
+    assert_eq!(check(0, &[]), Ok(()));
+    assert_eq!(check(9, &[0, 0]), Err(Refusal::ListLength));
+    let large = Refusal::NumberTooLarge { place: 2 };
+    assert_eq!(check(3, &[0, 0, 9]), Err(large));
+    assert_eq!(check(2, &[0, 0, 1]), Err(Refusal::TwoAlike { place: 0 }));
+    let unnamed = Refusal::VertexUnnamed { place: 3 };
+    assert_eq!(check_attached(5, &[0, 1, 2]), Err(unnamed));
+    let twice = [0, 1, 2, 2, 1, 0];
+    assert_eq!(check(3, &twice), Ok(()));
+    let loose = Refusal::NotAttached { place: 1 };
+    assert_eq!(check_attached(3, &twice), Err(loose));
+    assert_eq!((loose.number(), loose.place()), (24, 1));
+}
+
+#[test]
+fn our_meshes_pass() {
+    let (mut vertices, mut triangles) = ([0.0; 40], [0; 24]);
+    let verbs = [VERBS, VERBS].concat();
+    let coordinates = [COORDINATES, COORDINATES].concat();
+    for runs in [1, 2] {
+        let (verbs, coordinates) = (&verbs[..3 * runs], &coordinates[..4 * runs]);
+        let mesh = tessellate(verbs, coordinates, OPTIONS, &mut vertices, &mut triangles);
+        let mesh = mesh.expect("a mesh");
+        let list = &triangles[..3 * mesh.triangles];
+        assert_eq!(check(mesh.vertices, list), Ok(()));
+        let second = if runs == 1 {
+            Ok(())
+        } else {
+            Err(Refusal::NotAttached { place: 2 })
+        };
+        assert_eq!(check_attached(mesh.vertices, list), second);
+    }
 }
 
 #[test]

@@ -4,6 +4,7 @@ use mathlib.Core.Path.{_≡_, subst, sym}
 use mathlib.Core.List.{List, [], _∷_}
 use lib.Ieee.{Float}
 use Rattle.lists.specs.Over.{over}
+use Rattle.refusals.specs.declared.Verdict.{Verdict}
 use Rattle.root.specs.Answer.{Answers, answerOf}
 use Rattle.root.specs.declared.Answer.{Answer}
 use Rattle.root.specs.declared.Rooted.{Rooted}
@@ -23,7 +24,7 @@ use Rattle.stl.specs.Write.{writeOf}
 use Rattle.stl.specs.declared.answer.StlAnswer.{StlAnswer}
 use Rattle.widths.specs.Widths.{Outcome}
 use Rattle.widths.specs.declared.answer.ListedAnswer.{ListedAnswer}
-use Rattle.stipeharbor.specs.Calls.{tessellateOutOf, readOutOf, ReadsOut, rootOutOf, RootsOut, normalOutOf, stlWriteOutOf, stlReadOutOf, listOutOf}
+use Rattle.stipeharbor.specs.Calls.{tessellateOutOf, readOutOf, ReadsOut, rootOutOf, RootsOut, normalOutOf, stlWriteOutOf, stlReadOutOf, listOutOf, checkOutOf}
 
 pub is-tessellated : (verbs : List ℕ) (coords : List Float) (options : Options) (l : Lists) (answer : List ℕ) {l' : Lists} {r : MeshAnswer} → record { answer = r; lists = l' } ≡ outcomeOf verbs coords options l
     → {a : MeshAnswer} → a ≡ r → {answer' : List ℕ} → answer' ≡ over (a .place ∷ a .vertices ∷ a .triangles ∷ []) answer
@@ -72,3 +73,7 @@ pub listed : (o : Outcome) (list' answer : List ℕ) (r : ListedAnswer) → reco
     → record { number = a .number; answer = answer'; list = list' } ≡ listOutOf o answer
 unfolding listOutOf
 listed o list' answer r h a e answer' w = rw (← h, ← e, w)
+
+pub checked-out : (v : Verdict) (answer : List ℕ) (r : Verdict) → r ≡ v → (answer' : List ℕ) → answer' ≡ over (r .place ∷ []) answer → record { number = r .number; answer = answer' } ≡ checkOutOf v answer
+unfolding checkOutOf
+checked-out v answer r e answer' w = rw (← e, w)

@@ -3,13 +3,14 @@ use Prim.Native.Nat.{ℕ}
 use mathlib.Core.Path.{_≡_, sym, ap, _∙_}
 use mathlib.Core.List.{List}
 use lib.Ieee.{Float}
+use Rattle.refusals.specs.declared.Verdict.{Verdict}
 use Rattle.root.specs.declared.Answer.{Answer}
 use Rattle.root.proofs.Laws.{one-answer}
 use Rattle.options.specs.declared.Options.{Options}
 use Rattle.pieces.specs.Piece.{Lists}
 use Rattle.reader.specs.Outcome as reader
 use Rattle.reader.proofs.Meets.{same-outcome}
-use Rattle.stipeharbor.specs.Calls.{Tessellated, tessellateOutOf, ReadOut, readOutOf, ReadsOut, FloatsOut, rootOutOf, RootsOut, normalOutOf, StlWritten, stlWriteOutOf, StlCorners, stlReadOutOf, ListOut, widenOutOf, narrowOutOf}
+use Rattle.stipeharbor.specs.Calls.{Tessellated, tessellateOutOf, ReadOut, readOutOf, ReadsOut, FloatsOut, rootOutOf, RootsOut, normalOutOf, StlWritten, stlWriteOutOf, StlCorners, stlReadOutOf, ListOut, widenOutOf, narrowOutOf, CheckOut, checkOutOf}
 
 pub tessellate-out-one : (verbs : List ℕ) (coords : List Float) (options : Options) (l : Lists) (answer : List ℕ) (a b : Tessellated)
     → a ≡ tessellateOutOf verbs coords options l answer → b ≡ tessellateOutOf verbs coords options l answer → a ≡ b
@@ -37,3 +38,6 @@ widen-out-one numbers wide answer a b h k = h ∙ sym k
 
 pub narrow-out-one : (numbers narrowed answer : List ℕ) (a b : ListOut) → a ≡ narrowOutOf numbers narrowed answer → b ≡ narrowOutOf numbers narrowed answer → a ≡ b
 narrow-out-one numbers narrowed answer a b h k = h ∙ sym k
+
+pub check-out-one : (v : Verdict) (answer : List ℕ) (a b : CheckOut) → a ≡ checkOutOf v answer → b ≡ checkOutOf v answer → a ≡ b
+check-out-one v answer a b h k = h ∙ sym k

@@ -5,6 +5,7 @@ use mathlib.Core.Path.{_≡_}
 use mathlib.Core.List.{List, [], _∷_}
 use lib.Ieee.{Float}
 use Rattle.lists.specs.Over.{over}
+use Rattle.refusals.specs.declared.Verdict.{Verdict}
 use Rattle.root.specs.Answer.{Answers}
 use Rattle.root.specs.declared.Answer.{Answer}
 use Rattle.plane.specs.Normal.{computeNormalOf}
@@ -112,3 +113,11 @@ widenOutOf numbers wide answer = listOutOf (widenOf numbers wide) answer
 
 abbrev pub narrowOutOf : List ℕ → List ℕ → List ℕ → ListOut
 narrowOutOf numbers narrowed answer = listOutOf (narrowOf numbers narrowed) answer
+
+-- ---- stipeharbor_check and stipeharbor_check_attached: the place
+pub record CheckOut : Type 0 where
+  pub number : ℕ
+  pub answer : List ℕ
+
+unfoldable pub checkOutOf : Verdict → List ℕ → CheckOut
+checkOutOf v answer = record { number = v .number; answer = over (v .place ∷ []) answer }

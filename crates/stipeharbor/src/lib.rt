@@ -1,11 +1,14 @@
-// The library as C and Rust link it: eight calls over numbers and slices, each answering document 01's number. What a number stands for is written over
+// The library as C and Rust link it: ten calls over numbers and slices, each answering document 01's number. What a number stands for is written over
 // the start of a list that the caller lends, as far as that list goes, so no call has a `requires`.
 mod put;
 
 use crate::put::put_float;
+use crate::put::put_number;
 use crate::put::put_numbers;
 use crate::put::put_pair;
 use crate::put::put_vector;
+use inspect::check;
+use inspect::check_attached;
 use mesh::answer::mesh_answer_of;
 use mesh::tessellate;
 use options::Options;
@@ -25,8 +28,9 @@ use widths::answer::listed_answer_of;
 use widths::narrow;
 use widths::widen;
 ghost use mathlib.Core.Path.{_≡_};
+ghost use Rattle.inspect.specs.Answer.{checkOf, checkAttachedOf};
 ghost use Rattle.pieces.specs.Piece.{lent};
-ghost use Rattle.stipeharbor.specs.Calls.{optionsOf, tessellated, tessellateOutOf, normalOutOf, ReadsOut, RootsOut, stlWriteOutOf, stlReadOutOf, widenOutOf, narrowOutOf};
+ghost use Rattle.stipeharbor.specs.Calls.{optionsOf, tessellated, tessellateOutOf, normalOutOf, ReadsOut, RootsOut, stlWriteOutOf, stlReadOutOf, widenOutOf, narrowOutOf, checkOutOf};
 
 // The mesh call. `answer` gets the place, the number of vertices and the number of triangles.
 #[no_mangle]
@@ -150,4 +154,28 @@ pub extern "C" fn stipeharbor_narrow(
     let l = listed_answer_of(narrow(numbers, narrowed));
     put_pair(answer, l.place, l.count);
     l.number
+}
+
+// Whether an index list is one of triangles over all of `count` vertices. `answer` gets the place of its first fault.
+#[no_mangle]
+pub extern "C" fn stipeharbor_check(count: usize, list: &[u32], answer: &mut [usize]) -> u32
+    ensures { λ r. ⌜ record { number = r; answer = now (answer .exit) } ≡ checkOutOf (checkOf count (now (list .entry))) (now (answer .entry)) ⌝ }
+{
+    let v = check(count, list);
+    put_number(answer, v.place);
+    v.number
+}
+
+// The same, and whether each triangle but the first shares exactly two vertices with some earlier one.
+#[no_mangle]
+pub extern "C" fn stipeharbor_check_attached(
+    count: usize,
+    list: &[u32],
+    answer: &mut [usize],
+) -> u32
+    ensures { λ r. ⌜ record { number = r; answer = now (answer .exit) } ≡ checkOutOf (checkAttachedOf count (now (list .entry))) (now (answer .entry)) ⌝ }
+{
+    let v = check_attached(count, list);
+    put_number(answer, v.place);
+    v.number
 }

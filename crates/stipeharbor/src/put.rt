@@ -21,6 +21,15 @@ pub(crate) fn put_numbers(list: &mut [usize], a: usize, b: usize, c: usize)
     list[2] = c;
 }
 
+pub(crate) fn put_number(list: &mut [usize], a: usize)
+    ensures { λ _. ⌜ now (list .exit) ≡ over (a ∷ []) (now (list .entry)) ⌝ }
+{
+    if list.len() < 1 {
+        return;
+    }
+    list[0] = a;
+}
+
 pub(crate) fn put_float(list: &mut [f32], x: f32)
     ensures { λ _. ⌜ now (list .exit) ≡ over (x ∷ []) (now (list .entry)) ⌝ }
 {

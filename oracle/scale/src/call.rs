@@ -1,7 +1,8 @@
 //! One case given to both sides.
 
 use crate::list::List;
-use oracle::case::{Case, MeshCase, NarrowCase, ReadCase, StlReadCase, StlWriteCase, WidenCase};
+use oracle::case::{Case, ListCase, MeshCase, NarrowCase, ReadCase};
+use oracle::case::{StlReadCase, StlWriteCase, WidenCase};
 use oracle::gen::Rng;
 use oracle::mesh::mesh;
 use oracle::normal::public_normal;
@@ -11,7 +12,7 @@ use oracle::plane::vector;
 use oracle::reader::read;
 use oracle::root::public_root;
 use oracle::routines::Routines;
-use oracle::{stl, widths, Judge};
+use oracle::{inspect, stl, widths, Judge};
 use stipeharbor::raw;
 
 /// The lists of all calls, kept between cases.
@@ -28,6 +29,10 @@ pub struct Lists {
     wide: List<u32>,
     narrowed: List<u16>,
 }
+
+/// A question of an index list, as the library answers it and as the oracle does.
+type Call = fn(usize, &[u32], &mut [usize]) -> u32;
+type Question = fn(usize, &[u32]) -> Result<(), Refusal>;
 
 /// The number that both sides answered, or what differs.
 type Held = Result<u32, String>;
@@ -46,6 +51,8 @@ impl Lists {
             Case::StlRead(case) => self.hold_stl_read(case),
             Case::Widen(case) => self.hold_widen(case),
             Case::Narrow(case) => self.hold_narrow(case),
+            Case::Check(case) => self.hold_list(case, raw::check, inspect::check),
+            Case::Attached(case) => self.hold_list(case, raw::check_attached, inspect::attached),
             _ => Err("no call of the library".to_string()),
         }
     }
@@ -189,6 +196,16 @@ impl Lists {
         held(number, 0)?;
         alike(self.answer.difference("answer"))?;
         alike(self.corners.difference("corners"))?;
+        Ok(number)
+    }
+
+    fn hold_list(&mut self, case: &ListCase, ours: Call, theirs: Question) -> Held {
+        let number = ours(case.count, &case.list, self.answer.ours());
+        let told = theirs(case.count, &case.list).err();
+        let told = told.map_or((0, 0), |refusal| (refusal.number, refusal.place));
+        self.answer.expect(&[told.1]);
+        held(number, told.0)?;
+        alike(self.answer.difference("answer"))?;
         Ok(number)
     }
 

@@ -2,15 +2,16 @@
 //! the linked library and by the oracle, every lent list compared whole. `damaged` is the oracle's
 //! list of damaged STL files, whatever the seed, and ends by itself; `back` has meshes written and
 //! read back by the library; `big` has sizes that no line has: paths, texts and lists about the
-//! limits, and is left out where no call is named. Prints how often each number was answered; ends with 1 at the first
+//! limits, and is left out where no call is named. Of the index lists one in 20,000 has up to
+//! 200,000 triangles. Prints how often each number was answered; ends with 1 at the first
 //! difference, printing its case line.
 
 mod call;
 mod list;
 
 use call::Lists;
-use oracle::case::Case;
-use oracle::gen::{big, case, damaged, sound, Kind, Rng};
+use oracle::case::{Case, ListCase};
+use oracle::gen::{any_list, big, case, damaged, sound, Kind, Rng};
 use std::iter::repeat_with;
 use std::process::ExitCode;
 use std::time::Instant;
@@ -20,10 +21,11 @@ enum Of {
     Call(Kind),
     Damaged,
     Back,
+    List(fn(ListCase) -> Case),
     Big,
 }
 
-const KINDS: [(&str, Of); 11] = [
+const KINDS: [(&str, Of); 13] = [
     ("mesh", Of::Call(Kind::Mesh)),
     ("read", Of::Call(Kind::Read)),
     ("root", Of::Call(Kind::Root)),
@@ -34,6 +36,8 @@ const KINDS: [(&str, Of); 11] = [
     ("narrow", Of::Call(Kind::Narrow)),
     ("damaged", Of::Damaged),
     ("back", Of::Back),
+    ("check", Of::List(Case::Check)),
+    ("attached", Of::List(Case::Attached)),
     ("big", Of::Big),
 ];
 
@@ -77,6 +81,7 @@ fn cases(seed: u64, of: Of) -> Box<dyn Iterator<Item = Case>> {
         Of::Damaged => Box::new(damaged().map(Case::StlRead)),
         Of::Big => Box::new(repeat_with(move || big(&mut rng))),
         Of::Back => Box::new(repeat_with(move || Case::StlWrite(sound(&mut rng)))),
+        Of::List(asked) => Box::new(repeat_with(move || asked(any_list(&mut rng)))),
     }
 }
 
@@ -85,7 +90,7 @@ fn compare(seed: u64, count: usize, name: &str, of: Of) -> bool {
     let start = Instant::now();
     let mut lengths = Rng::new(!seed);
     let mut lists = Lists::default();
-    let mut told = [0u64; 19];
+    let mut told = [0u64; 25];
     let mut done = 0;
     for case in cases(seed, of).take(count) {
         let held = match (of, &case) {
