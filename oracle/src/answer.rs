@@ -1,7 +1,7 @@
 //! One answer to each line, over either implementation of the routines.
 
-use crate::case::{widened, Case, JoinCase, ListCase, MeshCase, NarrowCase, Op, ReadCase};
-use crate::case::{StlReadCase, StlWriteCase, WidenCase};
+use crate::case::{widened, Call, Case, JoinCase, ListCase, MeshCase, NarrowCase, Op, RadioCase};
+use crate::case::{ReadCase, StlReadCase, StlWriteCase, WidenCase};
 use crate::endpoint::{Endpoint, EndpointId, LineJoin, Points, NEGATIVE, POSITIVE};
 use crate::line::{filled_floats, filled_numbers, float_word, Line};
 use crate::outcome::{Outcome, Refusal};
@@ -35,6 +35,7 @@ pub fn answer_case<R: Routines>(case: &Case) -> String {
         Case::Narrow(case) => answer_narrow(case),
         Case::Check(case) => answer_list("check", inspect::check, case),
         Case::Attached(case) => answer_list("attached", inspect::attached, case),
+        Case::Radio(case) => answer_radio(case),
     }
 }
 
@@ -67,6 +68,37 @@ fn answer_read(case: &ReadCase) -> String {
     outcome("read", answer)
         .bytes(&verbs)
         .floats(&coordinates)
+        .done()
+}
+
+/// The text is what was taken before the first close; every later call is 25 and changes nothing. A closing call ends each line.
+fn answer_radio(case: &RadioCase) -> String {
+    let mut verbs = filled_numbers(case.verb_len);
+    let mut coordinates = filled_floats(case.coordinate_len);
+    let mut text = Vec::new();
+    let mut closed = false;
+    let mut close = |text: &[u8]| {
+        if closed {
+            return Outcome::from(Refusal {
+                number: 25,
+                place: 0,
+            });
+        }
+        closed = true;
+        reader::close(text, &mut verbs, &mut coordinates)
+    };
+    let mut answers = Vec::new();
+    for call in &case.calls {
+        match call {
+            Call::Take(fragment) => text.extend(fragment),
+            Call::Close => answers.push(close(&text).number as u16),
+        }
+    }
+    let last = close(&text);
+    outcome("radio", last)
+        .bytes(&verbs)
+        .floats(&coordinates)
+        .numbers(&answers)
         .done()
 }
 

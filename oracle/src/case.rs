@@ -27,6 +27,7 @@ pub enum Case {
     Narrow(NarrowCase),
     Check(ListCase),
     Attached(ListCase),
+    Radio(RadioCase),
 }
 
 #[derive(Clone, Debug, PartialEq)]
@@ -77,6 +78,20 @@ pub struct ListCase {
     pub list: Vec<u32>,
 }
 
+#[derive(Clone, Debug, PartialEq)]
+pub struct RadioCase {
+    pub verb_len: usize,
+    pub coordinate_len: usize,
+    pub calls: Vec<Call>,
+}
+
+/// A call of the radio: a fragment, or a close.
+#[derive(Clone, Debug, PartialEq)]
+pub enum Call {
+    Take(Vec<u8>),
+    Close,
+}
+
 #[derive(Clone, Copy, Debug, PartialEq, Eq)]
 pub enum Op {
     Push(usize),
@@ -118,6 +133,7 @@ impl Case {
             b"narrow" => Case::Narrow(narrow(&mut words)?),
             b"check" => Case::Check(list(&mut words)?),
             b"attached" => Case::Attached(list(&mut words)?),
+            b"radio" => Case::Radio(radio(&mut words)?),
             _ => return None,
         };
         words.end()?;
@@ -161,6 +177,7 @@ impl Case {
                 .done(),
             Case::Check(case) => list_line("check", case),
             Case::Attached(case) => list_line("attached", case),
+            Case::Radio(case) => radio_line(case),
         }
     }
 }
@@ -253,6 +270,36 @@ fn list_line(kind: &str, case: &ListCase) -> String {
     Line::new(kind)
         .number(case.count)
         .numbers(&case.list)
+        .done()
+}
+
+fn radio(words: &mut Words) -> Option<RadioCase> {
+    Some(RadioCase {
+        verb_len: words.number(MAX_VERB_LIST)?,
+        coordinate_len: words.number(MAX_COORDINATE_LIST)?,
+        calls: words.list(call)?,
+    })
+}
+
+fn call(words: &mut Words) -> Option<Call> {
+    if words.is_next(b"!") {
+        words.word()?;
+        return Some(Call::Close);
+    }
+    words.bytes().map(Call::Take)
+}
+
+fn radio_line(case: &RadioCase) -> String {
+    let start = Line::new("radio")
+        .number(case.verb_len)
+        .number(case.coordinate_len)
+        .number(case.calls.len());
+    case.calls
+        .iter()
+        .fold(start, |line, call| match call {
+            Call::Take(fragment) => line.bytes(fragment),
+            Call::Close => line.word("!"),
+        })
         .done()
 }
 

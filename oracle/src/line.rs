@@ -26,6 +26,11 @@ impl<'a> Words<'a> {
         Some(&rest[..space.unwrap_or(rest.len())])
     }
 
+    /// Whether the next word is that.
+    pub fn is_next(&self, word: &[u8]) -> bool {
+        Words(self.0).word() == Some(word)
+    }
+
     /// A number from 0 to `most`.
     pub fn number(&mut self, most: usize) -> Option<usize> {
         number(self.word()?, most)

@@ -124,7 +124,8 @@ enum Token {
     Number(Number),
 }
 
-fn tokens(text: &[u8]) -> Vec<Token> {
+/// The letters and numbers of a text, each with the place behind its last byte.
+fn tokens(text: &[u8]) -> Vec<(Token, usize)> {
     let mut tokens = Vec::new();
     // The number that may still get a digit or its point.
     let mut going: Option<Number> = None;
@@ -133,7 +134,7 @@ fn tokens(text: &[u8]) -> Vec<Token> {
             (Class::Digit, Some(number)) => number.digit(byte),
             (Class::Point, Some(number)) if !number.has_point() => number.point(),
             (class, _) => {
-                tokens.extend(going.take().map(Token::Number));
+                tokens.extend(going.take().map(|number| (Token::Number(number), place)));
                 match class {
                     Class::Sign => going = Some(Number::at(place, byte == b'-')),
                     Class::Digit | Class::Point => {
@@ -145,14 +146,14 @@ fn tokens(text: &[u8]) -> Vec<Token> {
                         going = Some(number);
                     }
                     Class::Move | Class::Line | Class::Along | Class::Close => {
-                        tokens.push(Token::Letter(byte));
+                        tokens.push((Token::Letter(byte), place + 1));
                     }
                     _ => {}
                 }
             }
         }
     }
-    tokens.extend(going.map(Token::Number));
+    tokens.extend(going.map(|number| (Token::Number(number), text.len())));
     tokens
 }
 
@@ -242,16 +243,41 @@ impl Drawing {
     }
 }
 
-fn draw(tokens: &[Token]) -> Result<Drawing, Refusal> {
-    let mut drawing = Drawing::default();
-    for token in tokens {
+impl Drawing {
+    fn token(&mut self, token: &Token) -> Result<(), Refusal> {
         match token {
-            Token::Letter(letter) => drawing.command(*letter),
-            Token::Number(number) => drawing.number(number)?,
+            Token::Letter(letter) => self.command(*letter),
+            Token::Number(number) => self.number(number)?,
         }
+        Ok(())
+    }
+}
+
+fn draw(tokens: &[(Token, usize)]) -> Result<Drawing, Refusal> {
+    let mut drawing = Drawing::default();
+    for (token, _) in tokens {
+        drawing.token(token)?;
     }
     drawing.end(END_OPEN);
     Ok(drawing)
+}
+
+/// W-212: what ended before the first place of a 9 or 10, or the text limit. A number ends where its last digit is.
+fn ended(text: &[u8]) -> Drawing {
+    let limit = Some(MAX_TEXT).filter(|limit| text.len() > *limit);
+    let wrong = check_form(text).err().map(|refusal| refusal.place);
+    let stop = limit.into_iter().chain(wrong).min();
+    let mut drawing = Drawing::default();
+    for (token, end) in tokens(text) {
+        let whole = matches!(token, Token::Letter(_)) || text[end - 1].is_ascii_digit();
+        if stop.map_or(false, |stop| end > stop) || !whole || drawing.token(&token).is_err() {
+            return drawing;
+        }
+    }
+    if stop.is_none() {
+        drawing.end(END_OPEN);
+    }
+    drawing
 }
 
 /// The drawing, or the first of refusals 8 to 10.
@@ -264,6 +290,20 @@ fn drawing(text: &[u8]) -> Result<Drawing, Refusal> {
 /// What the text needs: its verbs and coordinates, without room or the limit on verbs.
 pub fn measure(text: &[u8]) -> Result<(usize, usize), Refusal> {
     drawing(text).map(|d| (d.verbs.len(), d.coordinates.len()))
+}
+
+/// W-212: the text as its fragments were taken, closed. The answer is that of the whole text; each list holds, as far as it reaches,
+/// what ended before a refusal.
+pub fn close(text: &[u8], verbs: &mut [u8], coordinates: &mut [f32]) -> Outcome {
+    let held = ended(text);
+    let answer = read(text, verbs, coordinates);
+    for (place, verb) in verbs.iter_mut().zip(&held.verbs) {
+        *place = *verb;
+    }
+    for (place, coordinate) in coordinates.iter_mut().zip(&held.coordinates) {
+        *place = *coordinate;
+    }
+    answer
 }
 
 /// The call. A refusal leaves both lists as they were.

@@ -7,6 +7,7 @@ mod indices;
 mod joins;
 mod meshes;
 mod paths;
+mod radio;
 mod rng;
 mod shapes;
 mod small;
@@ -36,6 +37,7 @@ pub enum Kind {
     Narrow,
     Check,
     Attached,
+    Radio,
     Bad,
     All,
 }
@@ -56,6 +58,7 @@ impl Kind {
             "narrow" => Some(Kind::Narrow),
             "check" => Some(Kind::Check),
             "attached" => Some(Kind::Attached),
+            "radio" => Some(Kind::Radio),
             "bad" => Some(Kind::Bad),
             "all" => Some(Kind::All),
             _ => None,
@@ -88,6 +91,7 @@ pub fn case(rng: &mut Rng, kind: Kind) -> Case {
         Kind::Narrow => Case::Narrow(widths::narrow(rng)),
         Kind::Check => Case::Check(indices::indices(rng)),
         Kind::Attached => Case::Attached(indices::indices(rng)),
+        Kind::Radio => Case::Radio(radio::radio(rng)),
         Kind::Bad | Kind::All => {
             let kind = rng.pick(&[
                 Kind::Mesh,

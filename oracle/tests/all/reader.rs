@@ -149,3 +149,51 @@ fn over_65536_verbs() {
     assert_eq!(read(&text(65_536)).2.len(), 65_536);
     assert_eq!((read(&text(65_537)).0, read(&text(65_537)).1), (11, 0));
 }
+
+/// What a closed text leaves in lists of 8 places that held nines and ones, as far as it is held.
+fn held(text: &[u8]) -> (u32, usize, Vec<u8>, Vec<f32>) {
+    let (mut verbs, mut coordinates) = ([9; 8], [-1.0; 8]);
+    let answer = reader::close(text, &mut verbs, &mut coordinates);
+    let verbs = verbs.iter().copied().take_while(|verb| *verb < 9).collect();
+    let coordinates = coordinates
+        .iter()
+        .copied()
+        .take_while(|x| *x >= 0.0)
+        .collect();
+    (answer.number, answer.place, verbs, coordinates)
+}
+
+#[test]
+fn what_a_refused_text_leaves() {
+    let cases: [(&[u8], u32, usize, &[u8], &[f32]); 12] = [
+        (b"M1 2x", 9, 4, &[0], &[1.0, 2.0]),
+        (b"M1 2L3L", 9, 6, &[0], &[1.0, 2.0]),
+        (b"M1 2L", 9, 5, &[0], &[1.0, 2.0]),
+        (b"M1 99999x", 9, 8, &[], &[]),
+        (b"M0 0L99999 1L2 2x", 9, 16, &[0], &[0.0, 0.0]),
+        (b"M1 2ZL99999 3", 10, 6, &[0, 3, 0], &[1.0, 2.0, 1.0, 2.0]),
+        (b"M0 0L1 .1234567", 9, 14, &[0], &[0.0, 0.0]),
+        (b"M0 0L1 2.x", 9, 9, &[0], &[0.0, 0.0]),
+        (b"M1 2Z5", 9, 5, &[0, 3], &[1.0, 2.0]),
+        (b"M0 99999Z", 10, 3, &[], &[]),
+        (b"L0 0", 9, 0, &[], &[]),
+        (b"M1 2L3 4", 0, 0, &[0, 1, 2], &[1.0, 2.0, 3.0, 4.0]),
+    ];
+    for (text, number, place, verbs, coordinates) in cases {
+        assert_eq!(
+            held(text),
+            (number, place, verbs.to_vec(), coordinates.to_vec())
+        );
+    }
+}
+
+#[test]
+fn a_number_ends_at_the_text_limit_or_does_not() {
+    for (next, verbs) in [(b' ', 2), (b'3', 1), (b'.', 1), (b'Z', 2), (b'x', 2)] {
+        let mut text = vec![b' '; reader::MAX_TEXT - 8];
+        text.extend(b"M0 0L1 2");
+        text.push(next);
+        let (number, place, held, _) = held(&text);
+        assert_eq!((number, place, held.len()), (8, 0, verbs));
+    }
+}
