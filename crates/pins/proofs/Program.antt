@@ -2,7 +2,7 @@
 use native.Mathlib.Omega.{arith}
 use lib.Count.{leadingZeros}
 use lib.Ieee.{sub, mul, div, le, ofBits, toBits, ofInt, lt, neg, round}
-use Rattle.lists.specs.Over.{over, flat}
+use Rattle.lists.specs.Over.{over, flat, putAt}
 use Rattle.root.specs.Compute.{floorRoot, partsRoot, bitsRoot, rootOf}
 use Rattle.plane.specs.Vector.{plusOf, minusOf, timesOf, dividedOf, negatedOf, turnedOf, squareLengthOf, lengthOf}
 use Rattle.endpoint.specs.Endpoint.{singleOf}
@@ -25,7 +25,8 @@ use Rattle.run.specs.Run.{shapeOf, shapeCount, shapeVertices, shapeTriangles}
 use Rattle.runs.specs.Runs.{meshVertices, meshCount, meshTriangles}
 use Rattle.mesh.specs.Mesh.{acceptedOf, strokedOf, outcomeOf}
 use Rattle.form.specs.Bytes.{classOf}
-use Rattle.reader.specs.Read.{scannedOf, formedOf, outcomeOf as readOf}
+use Rattle.reader.specs.Pass.{stepped}
+use Rattle.reader.specs.Read.{throughOf, outcomeOf as readOf}
 use Rattle.reader.proofs.Meets.{meets}
 use Rattle.lines.specs.Digits.{glyphOf, digitsOf, placesUpTo, decimalOf}
 use Rattle.page.specs.Page.{bytes, verbRoom, coordRoom, linesTo, meshPage, meshPageOf, readPageOf, Prints, read-text}
@@ -56,7 +57,7 @@ unfolding vertexCount jointVerticesOf verticesOf sections flat different triOf b
 meshes = tt
 
 calls : Unit {0}
-unfolding acceptedOf strokedOf outcomeOf over classOf scannedOf formedOf readOf glyphOf digitsOf placesUpTo decimalOf linesTo meshPage meshPageOf readPageOf
+unfolding acceptedOf strokedOf outcomeOf over putAt classOf stepped throughOf readOf glyphOf digitsOf placesUpTo decimalOf linesTo meshPage meshPageOf readPageOf
 calls = tt
 
 pub example : Prints (bytes "M0 1L2 1") (bytes "v 4\n00000000 40000000\n00000000 00000000\n40000000 40000000\n40000000 00000000\nt 2\n1 0 2\n1 2 3\n")

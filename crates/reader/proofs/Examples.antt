@@ -9,10 +9,10 @@ use lib.Dec.{eqb}
 use lib.Ieee.{binary32, ofBits, toBits, round, add, lt, neg}
 use lib.ListN.{length, replicate}
 use Rattle.form.specs.Bytes.{classOf}
-use Rattle.form.specs.Machine.{stop}
-use Rattle.lists.specs.Over.{over}
+use Rattle.lists.specs.Over.{over, putAt}
 use Rattle.reader.specs.Outcome.{Outcome}
-use Rattle.reader.specs.Read.{scannedOf, formedOf, outcomeOf}
+use Rattle.reader.specs.Pass.{stepped}
+use Rattle.reader.specs.Read.{throughOf, outcomeOf}
 
 bytes : String → List ℕ
 bytes none = []
@@ -81,5 +81,5 @@ cases =
     ∷ []
 
 pub worked : every cases ≡ true
-unfolding bytes same leaves says every cases outcomeOf scannedOf formedOf stop classOf over ofBits toBits round add lt neg
+unfolding bytes same leaves says every cases outcomeOf throughOf stepped classOf putAt over ofBits toBits round add lt neg
 worked = refl

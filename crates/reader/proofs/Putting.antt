@@ -38,9 +38,3 @@ module _ {A : Type 0} where
   put-clamped v ys ws n k h e =
       let l : k ≤ length v = omega arith in
       put-part v ys ws k l e ∙ ap (λ j. putAt j ws v) h ∙ clamped n ws v
-
-  -- an element that is there
-  pub any-default : (xs : List A) (i : ℕ) (d e : A) → i < length xs → getD xs i d ≡ getD xs i e
-  any-default [] i d e h = absurd (omega arith)
-  any-default (x ∷ xs) zero d e h = refl
-  any-default (x ∷ xs) (suc i) d e h = any-default xs i d e (omega arith)

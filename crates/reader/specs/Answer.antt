@@ -10,6 +10,8 @@ use Rattle.reader.specs.declared.answer.ReadAnswer.{ReadAnswer}
 use Rattle.reader.specs.declared.counts.Counts.{Counts}
 use Rattle.reader.specs.declared.counts.Found.{Found}
 use Rattle.reader.specs.declared.counts.Found.the-variants.{Nowhere, At}
+use Rattle.reader.specs.declared.pass.Passage.{Passage}
+use Rattle.reader.specs.Pass.{isOver}
 
 -- "The reader's text limit becomes 1 MiB" (W-205)
 abbrev pub textLimit : ℕ
@@ -46,5 +48,9 @@ abbrev pub largeOr : Found → ReadAnswer → ReadAnswer
 largeOr (At i) a = withPlace (numberOf largeNumber) i
 largeOr Nowhere a = a
 
-abbrev pub judgedOf : Counts → ℕ → ℕ → ReadAnswer
-judgedOf c verbRoom coordRoom = largeOr (c .large) (roomOf c verbRoom coordRoom)
+abbrev pub countedOf : Counts → ℕ → ℕ → ReadAnswer
+countedOf c verbRoom coordRoom = largeOr (c .large) (roomOf c verbRoom coordRoom)
+
+-- refusals 9 to 11, behind the end of a text
+abbrev pub judgedOf : Passage → ℕ → ℕ → ReadAnswer
+judgedOf p verbRoom coordRoom = cond (isOver p) (withPlace (numberOf malformedText) (p .place)) (countedOf (p .counts) verbRoom coordRoom)

@@ -1,13 +1,10 @@
 -- What events come to: verbs, coordinates, and the first number that is too large. Assumes nothing.
-use Prim.Native.Nat.{ℕ, _+_}
+use Prim.Native.Nat.{ℕ, _+_, min}
 use mathlib.Core.List.{List, [], _∷_, _++_}
-use lib.ListN.{length}
 use lib.Ieee.{Float}
-use Rattle.lists.specs.Over.{putAt}
 use Rattle.path.specs.Verbs.{begin, line, endOpen, endClosed}
 use Rattle.values.specs.declared.events.Event.{Event}
 use Rattle.values.specs.declared.events.Event.the-variants.{Nothing, Begin, Line, EndOpen, EndClosed, Beyond}
-use Rattle.values.specs.declared.state.Called.{Called}
 use Rattle.reader.specs.declared.counts.Counts.{Counts}
 use Rattle.reader.specs.declared.counts.Found.{Found}
 use Rattle.reader.specs.declared.counts.Found.the-variants.{Nowhere, At}
@@ -56,22 +53,31 @@ abbrev pub firstLarge : List Event → Found
 firstLarge [] = Nowhere
 firstLarge (e ∷ es) = orElse (largeOf e) (firstLarge es)
 
-abbrev pub countsOf : List Event → Counts
-countsOf es = record { verbs = length (verbsOf es); coords = length (coordsOf es); large = firstLarge es }
+-- Where the next verb and coordinates are put: behind so many. A number that is too large takes all the places there are, and nothing is put behind it.
+abbrev pub allPlaces : ℕ
+allPlaces = 18446744073709551615
 
--- and with one event more
+abbrev pub capped : ℕ → ℕ
+capped n = min n allPlaces
+
+abbrev pub verbCount : Event → ℕ
+verbCount Nothing = 0
+verbCount (Begin x y i) = 1
+verbCount (Line x y i) = 1
+verbCount (EndOpen i) = 1
+verbCount (EndClosed i) = 1
+verbCount (Beyond i) = allPlaces
+
+abbrev pub coordCount : Event → ℕ
+coordCount Nothing = 0
+coordCount (Begin x y i) = 2
+coordCount (Line x y i) = 2
+coordCount (EndOpen i) = 0
+coordCount (EndClosed i) = 0
+coordCount (Beyond i) = allPlaces
+
 abbrev pub noCounts : Counts
 noCounts = record { verbs = 0; coords = 0; large = Nowhere }
 
 abbrev pub addedOf : Counts → Event → Counts
-addedOf c e = record { verbs = c .verbs + length (verbOf e); coords = c .coords + length (coordsAt e); large = orElse (c .large) (largeOf e) }
-
--- what a byte calls for: the counts with it, and each list with its part behind those of before
-abbrev pub calledCounts : Counts → Called → Counts
-calledCounts c k = addedOf (addedOf c (k .number)) (k .letter)
-
-abbrev pub calledVerbs : Counts → Called → List ℕ → List ℕ
-calledVerbs c k v = putAt (addedOf c (k .number) .verbs) (verbOf (k .letter)) (putAt (c .verbs) (verbOf (k .number)) v)
-
-abbrev pub calledCoords : Counts → Called → List Float → List Float
-calledCoords c k v = putAt (addedOf c (k .number) .coords) (coordsAt (k .letter)) (putAt (c .coords) (coordsAt (k .number)) v)
+addedOf c e = record { verbs = capped (c .verbs + verbCount e); coords = capped (c .coords + coordCount e); large = orElse (c .large) (largeOf e) }

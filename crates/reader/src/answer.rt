@@ -1,6 +1,8 @@
 // What the reader answers.
 use crate::counts::Counts;
 use crate::counts::Found;
+use crate::pass::Passage;
+use crate::pass::is_over;
 use path::verbs::VERB_LIMIT;
 use refusals::ACCEPTED;
 use refusals::LARGE_NUMBER;
@@ -8,7 +10,7 @@ use refusals::LONG_TEXT;
 use refusals::MALFORMED_TEXT;
 use refusals::READER_ROOM;
 ghost use mathlib.Core.Path.{_≡_};
-ghost use Rattle.reader.specs.Answer.{readAnswerOf, withCounts, withPlace, isPath, roomOf, judgedOf};
+ghost use Rattle.reader.specs.Answer.{readAnswerOf, withCounts, withPlace, isPath, roomOf, countedOf, judgedOf};
 
 // A path, or the first refusal by number.
 pub enum Reading {
@@ -49,14 +51,25 @@ fn room(c: Counts, verb_room: usize, coord_room: usize) -> Reading
 }
 
 // Refusals 10 and 11.
-pub(crate) fn judged(c: Counts, verb_room: usize, coord_room: usize) -> Reading
-    ensures { λ r. ⌜ readAnswerOf r ≡ judgedOf c «verb_room» «coord_room» ⌝ }
+fn counted(c: Counts, verb_room: usize, coord_room: usize) -> Reading
+    ensures { λ r. ⌜ readAnswerOf r ≡ countedOf c «verb_room» «coord_room» ⌝ }
 {
     let large = c.large;
     match large {
         Found::At(place) => Reading::TooLarge(place),
         Found::Nowhere => room(c, verb_room, coord_room),
     }
+}
+
+// Refusals 9 to 11, behind the end of a text.
+pub fn judged(p: Passage, verb_room: usize, coord_room: usize) -> Reading
+    ensures { λ r. ⌜ readAnswerOf r ≡ judgedOf p «verb_room» «coord_room» ⌝ }
+{
+    if is_over(p) {
+        return Reading::OutOfForm(p.place);
+    }
+    let c = p.counts;
+    counted(c, verb_room, coord_room)
 }
 
 pub(crate) fn is_path(r: Reading) -> bool

@@ -1,10 +1,8 @@
 // What the events of a text come to: verbs, coordinates, and the first number that is too large.
 use values::events::Event;
 ghost use mathlib.Core.Path.{_≡_};
-ghost use Prim.Native.Nat.{_≤_, _*_};
-ghost use lib.ListN.{length};
-ghost use Rattle.reader.specs.Counts.{verbOf, coordsAt, largeOf, orElse, noCounts, addedOf};
-ghost use Rattle.reader.specs.Answer.{textLimit};
+ghost use Prim.Native.Nat.{_+_};
+ghost use Rattle.reader.specs.Counts.{verbCount, coordCount, largeOf, orElse, capped, noCounts, addedOf};
 
 // A place, where there is one.
 pub enum Found {
@@ -12,14 +10,16 @@ pub enum Found {
     At(usize),
 }
 
+// How many verbs and coordinates there are, which is where the next ones are put. Behind a number that is too large there is no such place.
 pub struct Counts {
     pub verbs: usize,
     pub coords: usize,
     pub large: Found,
 }
 
-pub(crate) fn verb_count(e: Event) -> usize
-    ensures { λ r. ⌜ r ≡ length (verbOf e) ⌝ }
+// How many places an event takes. A number that is too large takes all that there are, so that nothing is put behind it.
+fn verb_count(e: Event) -> usize
+    ensures { λ r. ⌜ r ≡ verbCount e ⌝ }
 {
     match e {
         Event::Nothing => 0,
@@ -27,12 +27,12 @@ pub(crate) fn verb_count(e: Event) -> usize
         Event::Line(_, _, _) => 1,
         Event::EndOpen(_) => 1,
         Event::EndClosed(_) => 1,
-        Event::Beyond(_) => 0,
+        Event::Beyond(_) => usize::MAX,
     }
 }
 
-pub(crate) fn coord_count(e: Event) -> usize
-    ensures { λ r. ⌜ r ≡ length (coordsAt e) ⌝ }
+fn coord_count(e: Event) -> usize
+    ensures { λ r. ⌜ r ≡ coordCount e ⌝ }
 {
     match e {
         Event::Nothing => 0,
@@ -40,7 +40,7 @@ pub(crate) fn coord_count(e: Event) -> usize
         Event::Line(_, _, _) => 2,
         Event::EndOpen(_) => 0,
         Event::EndClosed(_) => 0,
-        Event::Beyond(_) => 0,
+        Event::Beyond(_) => usize::MAX,
     }
 }
 
@@ -76,15 +76,25 @@ pub(crate) fn no_counts() -> Counts
     }
 }
 
-// The counts with one event more, within bounds that keep the sums in range.
+// A sum of places, or all that there are.
+fn sum(a: usize, b: usize) -> usize
+    ensures { λ r. ⌜ r ≡ capped (a + b) ⌝ }
+{
+    if a > usize::MAX - b {
+        usize::MAX
+    } else {
+        a + b
+    }
+}
+
+// The counts with one event more.
 pub(crate) fn added(c: Counts, e: Event) -> Counts
-    requires { ⌜ (c .verbs ≤ 3 * textLimit) × (c .coords ≤ 6 * textLimit) ⌝ }
     ensures { λ r. ⌜ r ≡ addedOf c e ⌝ }
 {
     let before = c.large;
     Counts {
-        verbs: c.verbs + verb_count(e),
-        coords: c.coords + coord_count(e),
+        verbs: sum(c.verbs, verb_count(e)),
+        coords: sum(c.coords, coord_count(e)),
         large: or_else(before, large(e)),
     }
 }

@@ -1,5 +1,5 @@
-// The pass over a text: whether it has the form, what it comes to, and its verbs and coordinates, each event's written behind those
-// of the one before, as far as the lists go.
+// The pass over a text, whole or by parts: whether it has the form, what it comes to, and its verbs and coordinates, each event's put behind
+// those of the one before, as far as the lists go.
 use crate::counts::Counts;
 use crate::counts::added;
 use crate::counts::no_counts;
@@ -10,22 +10,17 @@ use path::verbs::END_OPEN;
 use path::verbs::LINE;
 use values::events::Event;
 use values::state::Called;
+use values::state::State;
 use values::state::start;
 use values::state::take;
 ghost use mathlib.Core.Path.{_≡_};
+ghost use mathlib.Core.Bool.{cond};
 ghost use mathlib.Core.List.{[], _∷_};
-ghost use Prim.Native.Nat.{_≤_, _*_, min};
+ghost use Prim.Native.Nat.{_≤_, _<_, _+_, min};
 ghost use lib.ListN.{length};
 ghost use Rattle.lists.specs.Over.{over, putAt};
-ghost use Rattle.reader.specs.Answer.{textLimit};
-ghost use Rattle.reader.specs.Counts.{verbOf, coordsAt, calledCounts, calledVerbs, calledCoords};
-ghost use Rattle.reader.specs.Read.{byteAt, scanAnswerOf, scannedOf, Written};
-
-pub enum Scanned {
-    // The place of refusal 9.
-    OutOfForm(usize),
-    Formed(Counts),
-}
+ghost use Rattle.reader.specs.Counts.{verbOf, coordsAt, allPlaces};
+ghost use Rattle.reader.specs.Pass.{eventPut, calledPut, setOut, isOver, stepped, passOf};
 
 fn put_verb(verbs: &mut [u8], verb: u8)
     ensures { λ _. ⌜ now (verbs .exit) ≡ over (verb ∷ []) (now (verbs .entry)) ⌝ }
@@ -91,49 +86,92 @@ fn put_at(verbs: &mut [u8], coords: &mut [f32], n: usize, m: usize, e: Event)
     put_event(&mut verbs[i..], &mut coords[j..], e);
 }
 
-// Puts what a byte calls for behind what was counted, and counts it. The bounds keep the sums in range: no byte calls for more than two
-// verbs.
-fn put_called(verbs: &mut [u8], coords: &mut [f32], c: Counts, called: Called) -> Counts
-    requires { ⌜ (c .verbs ≤ 2 * textLimit) × (c .coords ≤ 4 * textLimit) ⌝ }
-    ensures { λ r. ⌜ r ≡ calledCounts c called ⌝ }
-    ensures { λ _. ⌜ now (verbs .exit) ≡ calledVerbs c called (now (verbs .entry)) ⌝ }
-    ensures { λ _. ⌜ now (coords .exit) ≡ calledCoords c called (now (coords .entry)) ⌝ }
+// Puts an event behind what was counted, and counts it.
+fn put_next(verbs: &mut [u8], coords: &mut [f32], c: Counts, e: Event) -> Counts
+    ensures { λ r. ⌜ record { counts = r; verbs = now (verbs .exit); coords = now (coords .exit) } ≡ eventPut (record { counts = c; verbs = now (verbs .entry); coords = now (coords .entry) }) e ⌝ }
+{
+    put_at(verbs, coords, c.verbs, c.coords, e);
+    added(c, e)
+}
+
+// Puts what a byte calls for: by the number that ends before it, then by its letter, but for one that is out of form.
+fn put_called(verbs: &mut [u8], coords: &mut [f32], c: Counts, called: Called, lost: bool) -> Counts
+    ensures { λ r. ⌜ record { counts = r; verbs = now (verbs .exit); coords = now (coords .exit) } ≡ calledPut (record { counts = c; verbs = now (verbs .entry); coords = now (coords .entry) }) called lost ⌝ }
 {
     let number = called.number;
     let letter = called.letter;
-    put_at(verbs, coords, c.verbs, c.coords, number);
-    let d = added(c, number);
-    put_at(verbs, coords, d.verbs, d.coords, letter);
-    added(d, letter)
-}
-
-// The byte at a place. Behind the last one stands an M: the end of a text calls for what it would, and a text may end where an M may follow.
-fn byte_at(text: &[u8], i: usize) -> u8
-    ensures { λ r. ⌜ r ≡ byteAt (now (text .entry)) i ⌝ }
-{
-    if i < text.len() { text[i] } else { b'M' }
-}
-
-pub(crate) fn pass(text: &[u8], verbs: &mut [u8], coords: &mut [f32]) -> Scanned
-    requires { ⌜ length (now text) ≤ textLimit ⌝ }
-    ensures { λ r. ⌜ scanAnswerOf r ≡ scannedOf (now (text .entry)) ⌝ }
-    ensures { λ _. ⌜ Written (now (text .entry)) (now (verbs .entry)) (now (coords .entry)) (now (verbs .exit)) (now (coords .exit)) ⌝ }
-{
-    let mut s = start();
-    let mut c = no_counts();
-    let mut i: usize = 0;
-    while i <= text.len() {
-        let behind = i + 1;
-        let t = take(s, byte_at(text, i), i, behind);
-        let after = t.state;
-        let called = t.called;
-        let m = after.mode;
-        if is_lost(m) {
-            return Scanned::OutOfForm(i);
-        }
-        c = put_called(verbs, coords, c, called);
-        s = after;
-        i = behind;
+    let d = put_next(verbs, coords, c, number);
+    if lost {
+        return d;
     }
-    Scanned::Formed(c)
+    put_next(verbs, coords, d, letter)
+}
+
+// How far a text has come.
+pub struct Passage {
+    pub state: State,
+    pub counts: Counts,
+    // The place of the next byte, or of the first byte with which the text so far begins no text of the form.
+    pub place: usize,
+}
+
+// Before the first byte.
+pub fn set_out() -> Passage
+    ensures { λ r. ⌜ r ≡ setOut ⌝ }
+{
+    Passage {
+        state: start(),
+        counts: no_counts(),
+        place: 0,
+    }
+}
+
+// Whether no text of the form begins so.
+pub fn is_over(p: Passage) -> bool
+    ensures { λ r. ⌜ r ≡ isOver p ⌝ }
+{
+    let s = p.state;
+    let m = s.mode;
+    is_lost(m)
+}
+
+fn later(lost: bool, place: usize, behind: usize) -> usize
+    ensures { λ r. ⌜ r ≡ cond lost place behind ⌝ }
+{
+    if lost { place } else { behind }
+}
+
+// One byte more.
+fn step(p: Passage, b: u8, verbs: &mut [u8], coords: &mut [f32]) -> Passage
+    requires { ⌜ p .place < allPlaces ⌝ }
+    ensures { λ r. ⌜ record { passage = r; verbs = now (verbs .exit); coords = now (coords .exit) } ≡ stepped (record { passage = p; verbs = now (verbs .entry); coords = now (coords .entry) }) b ⌝ }
+{
+    let s = p.state;
+    let c = p.counts;
+    let place = p.place;
+    let behind = place + 1;
+    let t = take(s, b, place, behind);
+    let after = t.state;
+    let called = t.called;
+    let m = after.mode;
+    let lost = is_lost(m);
+    Passage {
+        state: after,
+        counts: put_called(verbs, coords, c, called, lost),
+        place: later(lost, place, behind),
+    }
+}
+
+// The bytes of a text or of a part of it, up to one that is out of form.
+pub fn pass(p: Passage, text: &[u8], verbs: &mut [u8], coords: &mut [f32]) -> Passage
+    requires { ⌜ p .place + length (now text) ≤ allPlaces ⌝ }
+    ensures { λ r. ⌜ record { passage = r; verbs = now (verbs .exit); coords = now (coords .exit) } ≡ passOf (record { passage = p; verbs = now (verbs .entry); coords = now (coords .entry) }) (now (text .entry)) ⌝ }
+{
+    let mut q = p;
+    let mut i: usize = 0;
+    while i < text.len() && !is_over(q) {
+        q = step(q, text[i], verbs, coords);
+        i += 1;
+    }
+    q
 }

@@ -1,89 +1,48 @@
 -- `reader::pass::pass` meets its contract. Assumes nothing.
 use borrow.Author.Needs.{needs}
-use Prim.Native.Nat.{_+_, _-_}
-use mathlib.Core.Path.{sym, ap, _∙_}
+use Prim.Native.Nat.{_-_}
 use native.Mathlib.Omega.{arith}
 use lib.ListN.{length}
-use Rattle.form.specs.Machine.{isLost}
-use Rattle.values.specs.declared.state.Took.{Took}
-use Rattle.reader.proofs.Passing.{Passing, passing-none, passing-turn, lost-answer, lost-written, formed-answer, formed-written}
+use Rattle.reader.proofs.Passing.{Passes, passes-none, passes-turn, passes-over, passes-all, still-on, now-over}
+use mathlib.Core.Path.{sym, _∙_}
 use Rattle.reader.proofs.pass.pass.Statement.{statement}
 use Rattle.reader.proofs.pass.pass.Tie as tie
 
 abbrev Inv-loop : tie.InvT-loop
-Inv-loop text verbs₀ coords₀ s₀ c₀ i₀ verbs coords s c i = Passing text verbs₀ coords₀ verbs coords s c i
+Inv-loop text verbs₀ coords₀ q₀ i₀ verbs coords q i = Passes text verbs₀ coords₀ q₀ verbs coords q i
 
 abbrev μ-loop : tie.MeasureT-loop
-μ-loop text verbs₀ coords₀ s₀ c₀ i₀ verbs coords s c i = length text + 1 - i
-
-start-requires : tie.Need-start-requires Inv-loop μ-loop
-start-requires c κs = search needs
-
-no-counts-requires : tie.Need-no-counts-requires Inv-loop μ-loop
-no-counts-requires c κs = search needs
+μ-loop text verbs₀ coords₀ q₀ i₀ verbs coords q i = length text - i
 
 loop-holds : tie.Need-loop-holds Inv-loop μ-loop
-loop-holds c = rw (c .no-counts .ensures, c .before .start .ensures) (passing-none _ _ _)
+loop-holds c = passes-none _ _ _ _
 
-add-behind : tie.Need-add-behind Inv-loop μ-loop
-add-behind c =
-    let at-loop = c .before in
-    let entry = at-loop .before .before .before .before .before .before in
-    omega (arith, at-loop .loop .inv .within, entry .pre)
+is-over-requires : tie.Need-is-over-requires Inv-loop μ-loop
+is-over-requires c κs = search needs
 
-byte-at-requires : tie.Need-byte-at-requires Inv-loop μ-loop
-byte-at-requires c κs = search needs
+shared-slice-read-step : tie.Need-shared-slice-read-step Inv-loop μ-loop
+shared-slice-read-step c = omega (arith, c .before .before .before .loop-test .taken)
 
-take-requires : tie.Need-take-requires Inv-loop μ-loop
-take-requires c κs = search needs
+step-requires : tie.Need-step-requires Inv-loop μ-loop
+step-requires c κs = omega (arith, c .before .before .before .before .before .before .loop .inv .places, c .before .before .before .before .before .loop-test .taken, c .before .before .before .before .before .before .before .before .before .before .pre)
 
-is-lost-requires : tie.Need-is-lost-requires Inv-loop μ-loop
-is-lost-requires c κs = search needs
-
-same-length : tie.Need-same-length Inv-loop μ-loop
-same-length c =
-    let at-loop = c .before .before .before .before .before .before .before .before in
-    at-loop .loop .inv .same-verbs
-
-same-length-2 : tie.Need-same-length-2 Inv-loop μ-loop
-same-length-2 c =
-    let at-loop = c .before .before .before .before .before .before .before .before in
-    at-loop .loop .inv .same-coords
-
-returns : tie.Need-returns Inv-loop μ-loop
-returns c =
-    let at-is-lost = c .before in
-    let at-take = at-is-lost .before .before .before .before in
-    let at-byte-at = at-take .before in
-    let at-loop-test = at-byte-at .before in
-    let at-loop = at-loop-test .before in
-    let t = rw (at-byte-at .byte-at .ensures) at (at-take .take .ensures) in
-    let lost = ap (λ (x : Took). isLost (x .state .mode)) (sym t) ∙ sym (at-is-lost .is-lost .ensures) ∙ c .if1 .taken in
-    (lost-answer _ _ _ _ _ (at-loop-test .loop-test .taken) _ _ _ (at-loop .loop .inv) lost, lost-written _ _ _ _ _ (at-loop-test .loop-test .taken) _ _ _ (at-loop .loop .inv) _ _ lost)
-
-put-called-requires : tie.Need-put-called-requires Inv-loop μ-loop
-put-called-requires c κs =
-    let at-loop-test = c .before .before .before .before .before .before .before .before .before in
-    let at-loop = at-loop-test .before in
-    let entry = at-loop .before .before .before .before .before .before in
-    omega (arith, at-loop .loop .inv .verbs, at-loop .loop .inv .coords, at-loop-test .loop-test .taken, entry .pre)
+add-i : tie.Need-add-i Inv-loop μ-loop
+add-i c = omega (arith, c .before .before .before .before .before .before .before .before .before .before .loop-test .taken)
 
 loop-less : tie.Need-loop-less Inv-loop μ-loop
-loop-less c = search needs
+loop-less c = omega (arith, c .before .before .before .before .before .before .before .before .before .before .loop-test .taken)
 
 loop-again : tie.Need-loop-again Inv-loop μ-loop
-loop-again c =
-    let at-put-called = c .before .before .before .before in
-    let at-if1 = at-put-called .before .before .before in
-    let at-is-lost = at-if1 .before in
-    let at-take = at-is-lost .before .before .before .before in
-    let at-byte-at = at-take .before in
-    let at-loop-test = at-byte-at .before in
-    let at-loop = at-loop-test .before in
-    let t = rw (at-byte-at .byte-at .ensures) at (at-take .take .ensures) in
-    let on = ap (λ (x : Took). isLost (x .state .mode)) (sym t) ∙ sym (at-is-lost .is-lost .ensures) ∙ at-if1 .if1 .left in
-    let put = at-put-called .put-called .ensures in
-    rw (put .0, put .1 .0, put .1 .1, t) (passing-turn _ _ _ _ _ (at-loop-test .loop-test .taken) _ _ _ (at-loop .loop .inv) on)
+loop-again c = passes-turn _ _ _ _ _ _ _ _ (c .before .before .before .before .before .before .before .before .before .before .before .loop .inv) _ _ (c .before .before .before .before .before .before .before .before .before .before .loop-test .taken) (still-on _ _ (c .before .before .before .before .before .before .before .before .before .is-over .ensures) (c .before .before .before .before .before .before .before .before .if1 .taken)) (c .before .before .before .before .step .ensures)
+
+same-length : tie.Need-same-length Inv-loop μ-loop
+same-length c = c .before .before .before .loop .inv .same-verbs
+
+same-length-2 : tie.Need-same-length-2 Inv-loop μ-loop
+same-length-2 c = c .before .before .before .loop .inv .same-coords
+
+returns : tie.Need-returns Inv-loop μ-loop
+returns c = passes-over _ _ _ _ _ _ _ _ (c .before .before .before .loop .inv) (now-over _ _ (c .before .is-over .ensures) (c .if1 .left))
 
 same-length-3 : tie.Need-same-length-3 Inv-loop μ-loop
 same-length-3 c = c .before .loop .inv .same-verbs
@@ -92,7 +51,7 @@ same-length-4 : tie.Need-same-length-4 Inv-loop μ-loop
 same-length-4 c = c .before .loop .inv .same-coords
 
 returns-2 : tie.Need-returns-2 Inv-loop μ-loop
-returns-2 c = (formed-answer _ _ _ _ _ (c .loop-test .left) _ _ _ (c .before .loop .inv), formed-written _ _ _ _ _ (c .loop-test .left) _ _ _ (c .before .loop .inv))
+returns-2 c = passes-all _ _ _ _ _ _ _ _ (c .before .loop .inv) (c .loop-test .left)
 
 pub pass-spec : {M : Type 1} → statement M
 pass-spec =
@@ -100,19 +59,16 @@ pass-spec =
     (tie.spec
     Inv-loop
     μ-loop
-    start-requires
-    no-counts-requires
     loop-holds
-    add-behind
-    byte-at-requires
-    take-requires
-    is-lost-requires
+    is-over-requires
+    shared-slice-read-step
+    step-requires
+    add-i
+    loop-less
+    loop-again
     same-length
     same-length-2
     returns
-    put-called-requires
-    loop-less
-    loop-again
     same-length-3
     same-length-4
     returns-2)

@@ -1,28 +1,12 @@
 -- `reader::pass::put_called` meets its contract. Assumes nothing.
 use borrow.Author.Needs.{needs}
-use native.Mathlib.Omega.{arith}
-use mathlib.Core.Path.{ap}
-use Rattle.reader.specs.declared.counts.Counts.{Counts}
-use Rattle.reader.proofs.Adding.{few, called-counts, called-verbs, called-coords}
+use mathlib.Core.Path.{ap, _∙_}
+use Rattle.reader.specs.Pass.{Sheet, eventPut}
 use Rattle.reader.proofs.pass.put_called.Statement.{statement}
 use Rattle.reader.proofs.pass.put_called.Tie as tie
 
-put-at-requires : tie.Need-put-at-requires
-put-at-requires c κs = search needs
-
-added-requires : tie.Need-added-requires
-added-requires c κs =
-    let entry = c .before .before .before .before .before .before .before .before .before in
-    omega (arith, entry .pre .0, entry .pre .1)
-
-put-at-requires-2 : tie.Need-put-at-requires-2
-put-at-requires-2 c κs = search needs
-
-added-requires-2 : tie.Need-added-requires-2
-added-requires-2 c κs =
-    let at-added = c .before .before .before .before .before .before .before in
-    let entry = at-added .before .before .before .before .before .before .before .before .before .before in
-    omega (arith, entry .pre .0, entry .pre .1, few (entry .args .called .number), ap (λ (x : Counts). x .verbs) (at-added .added .ensures), ap (λ (x : Counts). x .coords) (at-added .added .ensures))
+put-next-requires : tie.Need-put-next-requires
+put-next-requires c κs = search needs
 
 same-length : tie.Need-same-length
 same-length c = search needs
@@ -31,27 +15,29 @@ same-length-2 : tie.Need-same-length-2
 same-length-2 c = search needs
 
 returns : tie.Need-returns
-returns c =
-    let at-put-at2 = c .before .before .before .before .before in
-    let at-added = at-put-at2 .before .before .before in
-    let at-put-at = at-added .before .before .before .before .before in
-    let entry = at-put-at .before .before .before .before .before in
-    let one = at-put-at .put-at .ensures in
-    let two = at-put-at2 .put-at2 .ensures in
-    let d = at-added .added .ensures in
-    let counts = called-counts (entry .args .c) (entry .args .called) _ _ d (c .added2 .ensures) in
-    let verbs = called-verbs (entry .args .c) (entry .args .called) _ _ _ _ d (one .0) (two .0) in
-    let coords = called-coords (entry .args .c) (entry .args .called) _ _ _ _ d (one .1) (two .1) in
-    (counts, (verbs, coords))
+returns c = rw (c .if1 .taken) (c .before .before .before .before .before .put-next .ensures)
+
+put-next-requires-2 : tie.Need-put-next-requires-2
+put-next-requires-2 c κs = search needs
+
+same-length-3 : tie.Need-same-length-3
+same-length-3 c = search needs
+
+same-length-4 : tie.Need-same-length-4
+same-length-4 c = search needs
+
+returns-2 : tie.Need-returns-2
+returns-2 c = rw (c .before .before .before .before .before .before .before .if1 .left) (c .before .before .before .before .put-next2 .ensures ∙ ap (λ (h : Sheet). eventPut h (c .before .before .before .before .before .before .before .before .before .before .before .before .before .before .before .before .before .args .called .letter)) (c .before .before .before .before .before .before .before .before .before .before .before .before .put-next .ensures))
 
 pub put-called-spec : {M : Type 1} → statement M
 put-called-spec =
     tie.close
     (tie.spec
-    put-at-requires
-    added-requires
-    put-at-requires-2
-    added-requires-2
+    put-next-requires
     same-length
     same-length-2
-    returns)
+    returns
+    put-next-requires-2
+    same-length-3
+    same-length-4
+    returns-2)
