@@ -1,0 +1,28 @@
+-- `radio::take` meets its contract. Assumes nothing.
+use borrow.Author.Needs.{needs}
+use mathlib.Core.Path.{sym, _∙_}
+use Rattle.radio.proofs.Fragment.{took-open, took-closed}
+use Rattle.radio.proofs.take.Statement.{statement}
+use Rattle.radio.proofs.take.Tie as tie
+
+is-open-requires : tie.Need-is-open-requires
+is-open-requires c κs = search needs
+
+hear-requires : tie.Need-hear-requires
+hear-requires c κs = sym (c .before .before .before .is-open .ensures) ∙ c .before .before .if1 .taken
+
+same-length : tie.Need-same-length
+same-length c = search needs
+
+same-length-2 : tie.Need-same-length-2
+same-length-2 c = search needs
+
+returns : tie.Need-returns
+returns c = took-open (record { radio = c .before .before .before .before .before .before .before .before .before .before .before .before .args .r; verbs = c .before .before .before .before .before .before .before .before .before .before .before .before .args .verbs .now; coords = c .before .before .before .before .before .before .before .before .before .before .before .before .args .coords .now }) (c .before .before .before .before .before .before .before .before .before .before .before .before .args .fragment .now) _ (sym (c .before .before .before .before .before .before .before .before .is-open .ensures) ∙ c .before .before .before .before .before .before .before .if1 .taken) (c .before .before .before .before .hear .ensures)
+
+returns-2 : tie.Need-returns-2
+returns-2 c = took-closed (record { radio = c .before .before .before .before .before .args .r; verbs = c .before .before .before .before .before .args .verbs .now; coords = c .before .before .before .before .before .args .coords .now }) (c .before .before .before .before .before .args .fragment .now) (sym (c .before .is-open .ensures) ∙ c .if1 .left)
+
+pub take-spec : {M : Type 1} → statement M
+take-spec =
+    tie.close (tie.spec is-open-requires hear-requires same-length same-length-2 returns returns-2)
