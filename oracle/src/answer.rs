@@ -91,7 +91,7 @@ fn answer_radio(case: &RadioCase) -> String {
     for call in &case.calls {
         match call {
             Call::Take(fragment) => text.extend(fragment),
-            Call::Close => answers.push(close(&text).number as u16),
+            Call::Close => answers.push(close(&text).number),
         }
     }
     let last = close(&text);

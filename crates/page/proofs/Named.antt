@@ -1,7 +1,7 @@
 -- Five digits hold each number that the program prints of a triangle: it is a vertex's, of 1,024 at most. The plan: a mesh names its own vertices (mesh's `all-own`),
 -- and where there is none the list is as it was, all zeros. Assumes nothing.
-use Prim.Native.Nat.{ℕ, zero, suc, _+_, _*_, _/_, _≤_, _<_}
-use mathlib.Core.Path.{_≡_, refl, sym, ap, _∙_}
+use Prim.Native.Nat.{ℕ, zero, suc, _+_, _/_, _≤_, _<_}
+use mathlib.Core.Path.{_≡_, refl}
 use mathlib.Core.Bool.{Bool, true, false, cond, false≢true}
 use mathlib.Core.List.{List, [], _∷_}
 use native.Mathlib.Omega.{arith}
@@ -17,11 +17,10 @@ use Rattle.path.specs.Path.{checkedOf}
 use Rattle.path.specs.Runs.{Run}
 use Rattle.pieces.specs.Piece.{Lists, flatT}
 use Rattle.triangles.specs.Facts.{AllOwn}
-use Rattle.triangles.specs.Tri.{Tri, numbersOf}
-use Rattle.runs.specs.Runs.{runsOf, meshCount, meshTriangles, meshCounts}
-use Rattle.mesh.specs.Answer.{isMesh, withCounts, withPlace, judgedOf}
+use Rattle.triangles.specs.Tri.{Tri}
+use Rattle.runs.specs.Runs.{runsOf, meshCount, meshTriangles}
+use Rattle.mesh.specs.Answer.{isMesh, withCounts, withPlace}
 use Rattle.mesh.specs.Mesh.{Outcome, refused, drawn, roomFor, acceptedOf, onceAccepted, strokedOf, outcomeOf}
-use Rattle.mesh.specs.declared.answer.MeshAnswer.{MeshAnswer}
 use Rattle.mesh.proofs.Numbers.{all-own}
 
 -- each number is below k
@@ -55,15 +54,13 @@ module _ (k : ℕ) (l : Lists) (zeros : AllBelow k (l .triangles)) where
   Named o = o .answer .vertices ≤ k → AllBelow k (o .lists .triangles)
 
   mesh-counts : (o : Stroke) (rs : List (Run Endpoint)) → isMesh (roomFor l o rs) ≡ true → roomFor l o rs .vertices ≡ meshCount o rs
-  unfolding judgedOf
-  mesh-counts o rs = let c = meshCounts o rs in by (c .short) (c .triangles) (ltb (c .short) (c .legs)) (ltb (length (l .vertices) / 5) (c .vertices)) (ltb (length (l .triangles) / 3) (c .triangles))
+  mesh-counts o rs = by (length (meshTriangles o 0 rs)) (ltb (length (l .vertices) / 5) (meshCount o rs)) (ltb (length (l .triangles) / 3) (length (meshTriangles o 0 rs)))
     where
-      by : (i m : ℕ) (short few fewer : Bool) → let a = cond short (withPlace 5 i) (cond few (withCounts 6 (meshCount o rs) m) (cond fewer (withCounts 7 (meshCount o rs) m) (withCounts 0 (meshCount o rs) m))) in
+      by : (m : ℕ) (few fewer : Bool) → let a = cond few (withCounts 6 (meshCount o rs) m) (cond fewer (withCounts 7 (meshCount o rs) m) (withCounts 0 (meshCount o rs) m)) in
           isMesh a ≡ true → a .vertices ≡ meshCount o rs
-      by i m true few fewer e = absurd (false≢true e)
-      by i m false true fewer e = absurd (false≢true e)
-      by i m false false true e = absurd (false≢true e)
-      by i m false false false e = refl
+      by m true fewer e = absurd (false≢true e)
+      by m false true e = absurd (false≢true e)
+      by m false false e = refl
 
   accepted-named : (o : Stroke) (rs : List (Run Endpoint)) → Named (acceptedOf l o rs)
   unfolding acceptedOf
