@@ -155,7 +155,7 @@ uint32_t stipeharbor_narrow(
 
 /* Whether an index list from elsewhere, three numbers to a triangle, is one over `count` vertices: its length is a multiple of three, every number is below the count, each
  * triangle's three differ, and every vertex is named. Refusals 20 to 23, the first fault in that order. Every mesh that stipeharbor_tessellate writes passes.
- * It takes three looks at each number, and one more for each 262,144 vertices beyond the first so many: its marks are 32 KiB of the stack, whatever the list.
+ * It takes three looks at each number, and one more for each 262,144 vertices beyond the first so many: its marks are 33 KiB of the stack, whatever the list.
  * `answer` gets the place (of 21 to 23, else 0). */
 uint32_t stipeharbor_check(
     size_t count,
