@@ -1,7 +1,7 @@
 //! One answer to each line, over either implementation of the routines.
 
-use crate::case::{widened, Call, Case, JoinCase, ListCase, MeshCase, NarrowCase, Op, RadioCase};
-use crate::case::{ReadCase, StlReadCase, StlWriteCase, WidenCase};
+use crate::case::{widened, Call, CapCase, Case, JoinCase, ListCase, MeshCase, NarrowCase, Op};
+use crate::case::{RadioCase, ReadCase, StlReadCase, StlWriteCase, WidenCase};
 use crate::endpoint::{Endpoint, EndpointId, LineJoin, Points, NEGATIVE, POSITIVE};
 use crate::line::{filled_floats, filled_numbers, float_word, Line};
 use crate::outcome::{Outcome, Refusal};
@@ -28,7 +28,7 @@ pub fn answer_case<R: Routines>(case: &Case) -> String {
         Case::Normal(floats) => answer_normal::<R>(*floats),
         Case::Window(ops) => answer_window::<R>(ops),
         Case::Join(case) => answer_join::<R>(case),
-        Case::Cap(floats) => answer_cap::<R>(*floats),
+        Case::Cap(case) => answer_cap::<R>(case),
         Case::StlWrite(case) => answer_stl_write(case),
         Case::StlRead(case) => answer_stl_read(case),
         Case::Widen(case) => answer_widen(case),
@@ -49,14 +49,22 @@ fn outcome(kind: &str, outcome: Outcome) -> Line {
 
 fn answer_mesh<R: Routines>(case: &MeshCase) -> String {
     let mut vertices = filled_floats(case.vertex_len);
+    let mut sources = filled_numbers(case.source_len);
     let mut triangles = filled_numbers(case.triangle_len);
     let path = Path {
         verbs: &case.verbs,
         coordinates: &case.coordinates,
     };
-    let answer = mesh::mesh::<R>(path, case.options, &mut vertices, &mut triangles);
+    let answer = mesh::mesh::<R>(
+        path,
+        case.options,
+        &mut vertices,
+        &mut sources,
+        &mut triangles,
+    );
     outcome("mesh", answer)
         .floats(&vertices)
+        .numbers(&sources)
         .numbers(&triangles)
         .done()
 }
@@ -189,9 +197,11 @@ fn side(line: Line, points: Points) -> Line {
     }
 }
 
-fn answer_cap<R: Routines>([x, y, half_width, advancement]: [f32; 4]) -> String {
+fn answer_cap<R: Routines>(case: &CapCase) -> String {
+    let [x, y, half_width, advancement] = case.floats;
     let mut mesh = Mesh::default();
     let endpoint = Endpoint {
+        number: EndpointId(case.endpoint as u32),
         position: point(x, y),
         half_width,
         advancement,
@@ -200,6 +210,7 @@ fn answer_cap<R: Routines>([x, y, half_width, advancement]: [f32; 4]) -> String 
     R::write_empty_cap(&endpoint, &mut mesh);
     Line::new("cap")
         .floats(&mesh.vertices.concat())
+        .numbers(&mesh.sources)
         .numbers(&mesh.triangles.concat())
         .done()
 }

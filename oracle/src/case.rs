@@ -10,6 +10,7 @@ pub const MAX_VERB_LIST: usize = 4_200;
 pub const MAX_COORDINATE_LIST: usize = 8_400;
 pub const MAX_FILE: usize = 131_072;
 const MAX_ENDPOINT: usize = 9_999;
+pub const MAX_CAP_ENDPOINT: usize = 65_535;
 const MAX_GET: usize = 9;
 
 #[derive(Clone, Debug, PartialEq)]
@@ -20,7 +21,7 @@ pub enum Case {
     Normal([f32; 4]),
     Window(Vec<Op>),
     Join(JoinCase),
-    Cap([f32; 4]),
+    Cap(CapCase),
     StlWrite(StlWriteCase),
     StlRead(StlReadCase),
     Widen(WidenCase),
@@ -34,6 +35,7 @@ pub enum Case {
 pub struct MeshCase {
     pub options: Options,
     pub vertex_len: usize,
+    pub source_len: usize,
     pub triangle_len: usize,
     pub verbs: Vec<u8>,
     pub coordinates: Vec<f32>,
@@ -112,6 +114,13 @@ pub struct JoinCase {
     pub points: [Reached; 3],
 }
 
+/// x, y, half width and advancement, and the endpoint's number.
+#[derive(Clone, Copy, Debug, PartialEq)]
+pub struct CapCase {
+    pub floats: [f32; 4],
+    pub endpoint: usize,
+}
+
 impl Case {
     /// Nothing where the line is none of the forms.
     pub fn parse(line: &[u8]) -> Option<Case> {
@@ -126,7 +135,7 @@ impl Case {
             b"normal" => Case::Normal(words.some_floats()?),
             b"window" => Case::Window(words.list(|words| op(words.word()?))?),
             b"join" => Case::Join(join(&mut words)?),
-            b"cap" => Case::Cap(words.some_floats()?),
+            b"cap" => Case::Cap(cap(&mut words)?),
             b"stlwrite" => Case::StlWrite(stl_write(&mut words)?),
             b"stlread" => Case::StlRead(stl_read(&mut words)?),
             b"widen" => Case::Widen(widen(&mut words)?),
@@ -157,7 +166,10 @@ impl Case {
                 })
                 .done(),
             Case::Join(case) => join_line(case),
-            Case::Cap(floats) => Line::new("cap").some_floats(floats).done(),
+            Case::Cap(case) => Line::new("cap")
+                .some_floats(&case.floats)
+                .number(case.endpoint)
+                .done(),
             Case::StlWrite(case) => Line::new("stlwrite")
                 .number(case.byte_len)
                 .floats(&case.vertices)
@@ -192,6 +204,7 @@ fn mesh(words: &mut Words) -> Option<MeshCase> {
             merge: words.float()?,
         },
         vertex_len: words.number(MAX_VERTEX_LIST)?,
+        source_len: words.number(MAX_TRIANGLE_LIST)?,
         triangle_len: words.number(MAX_TRIANGLE_LIST)?,
         verbs: words.bytes()?,
         coordinates: words.list(Words::float)?,
@@ -206,6 +219,7 @@ fn mesh_line(case: &MeshCase) -> String {
         .number(usize::from(case.options.cap))
         .float(case.options.merge)
         .number(case.vertex_len)
+        .number(case.source_len)
         .number(case.triangle_len)
         .bytes(&case.verbs)
         .floats(&case.coordinates)
@@ -331,6 +345,13 @@ fn join(words: &mut Words) -> Option<JoinCase> {
         limit: words.float()?,
         join: words.number(2)? as u8,
         points: [reached(words)?, reached(words)?, reached(words)?],
+    })
+}
+
+fn cap(words: &mut Words) -> Option<CapCase> {
+    Some(CapCase {
+        floats: words.some_floats()?,
+        endpoint: words.number(MAX_CAP_ENDPOINT)?,
     })
 }
 

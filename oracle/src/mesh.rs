@@ -1,4 +1,4 @@
-//! The mesh call: path and options in, two lent lists filled, refusals 1 to 4, 6 and 7 in their order.
+//! The mesh call: path and options in, three lent lists filled, refusals 1 to 4, 6 and 7 in their order.
 //! W-207 retired 5.
 
 use crate::endpoint::LineJoin;
@@ -71,12 +71,13 @@ pub fn drawn<R: Routines>(path: Path, options: Options) -> Result<Mesh, Refusal>
     Ok(mesh)
 }
 
-/// The call. A refusal leaves both lists as they were; after 0 the places beyond those counted
+/// The call. A refusal leaves the lists as they were; after 0 the places beyond those counted
 /// keep their contents.
 pub fn mesh<R: Routines>(
     path: Path,
     options: Options,
     vertices: &mut [f32],
+    sources: &mut [u32],
     triangles: &mut [u32],
 ) -> Outcome {
     let mesh = match drawn::<R>(path, options) {
@@ -84,8 +85,9 @@ pub fn mesh<R: Routines>(
         Err(refusal) => return refusal.into(),
     };
     let counts = (mesh.vertices.len(), mesh.triangles.len());
-    // Room is the list's length over 5 or 3, rounded down.
-    if vertices.len() / 5 < counts.0 {
+    // Room is the list's length over 5 or 3, rounded down. W-206: "vertex room is now the smaller
+    // of the two lists' rooms."
+    if (vertices.len() / 5).min(sources.len()) < counts.0 {
         return Outcome::counted(6, counts);
     }
     if triangles.len() / 3 < counts.1 {
@@ -94,6 +96,7 @@ pub fn mesh<R: Routines>(
     for (place, vertex) in vertices.chunks_exact_mut(5).zip(&mesh.vertices) {
         place.copy_from_slice(vertex);
     }
+    sources[..counts.0].copy_from_slice(&mesh.sources);
     for (place, triangle) in triangles.chunks_exact_mut(3).zip(&mesh.triangles) {
         place.copy_from_slice(triangle);
     }

@@ -43,9 +43,11 @@ fn printed_of<R: Routines>(text: &[u8], vertices: usize, triangles: usize) -> St
         verbs: &verbs[..read.counts.0],
         coordinates: &coordinates[..read.counts.1],
     };
+    // W-206's list, which the program does not print, has room for as many.
+    let mut sources = vec![0; vertices];
     let mut vertices = vec![0.0; 5 * vertices];
     let mut triangles = vec![0; 3 * triangles];
-    let drawn = mesh::<R>(path, OPTIONS, &mut vertices, &mut triangles);
+    let drawn = mesh::<R>(path, OPTIONS, &mut vertices, &mut sources, &mut triangles);
     if drawn.number != 0 {
         return refused(drawn.number, drawn.place);
     }

@@ -2,7 +2,7 @@
 //! records a mesh, and the helpers that document 01's rules 5 and 6 replace.
 
 use crate::join;
-use crate::vertices::Mesh;
+use crate::vertices::{source, Mesh};
 use std::convert::Infallible;
 
 pub use crate::endpoint::{EndpointId, LineJoin, VertexId};
@@ -72,6 +72,8 @@ pub struct StrokeVertexData {
     pub normal: Vector,
     pub advancement: f32,
     pub side: Side,
+    /// As in `EndpointData`.
+    pub src: EndpointId,
 }
 
 pub struct StrokeVertex<'b>(pub &'b mut StrokeVertexData, pub &'b dyn AttributeStore);
@@ -85,11 +87,17 @@ pub trait StrokeGeometryBuilder {
 }
 
 impl StrokeGeometryBuilder for Mesh {
-    /// The place is position + normal*h, as `StrokeVertex::position` has it (rule 8).
+    /// The place is position + normal*h, as `StrokeVertex::position` has it (rule 8). Endpoint and
+    /// side are as the text left them.
     fn add_stroke_vertex(&mut self, vertex: StrokeVertex) -> Result<VertexId, TessellationError> {
         let data = vertex.0;
         let place = data.position_on_path + data.normal * data.half_width;
-        Ok(self.add_vertex(place, data.normal, data.advancement))
+        let side = match data.side {
+            Side::Positive => SIDE_POSITIVE,
+            Side::Negative => SIDE_NEGATIVE,
+        };
+        let source = source(data.src, side);
+        Ok(self.add_vertex(place, data.normal, data.advancement, source))
     }
 
     fn add_triangle(&mut self, a: VertexId, b: VertexId, c: VertexId) {

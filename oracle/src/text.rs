@@ -148,6 +148,7 @@ fn vertex(end: &Endpoint) -> StrokeVertexData {
         normal: vector(0.0, 0.0),
         advancement: end.advancement,
         side: Side::Positive,
+        src: end.number,
     }
 }
 

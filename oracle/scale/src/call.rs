@@ -19,6 +19,7 @@ use stipeharbor::raw;
 #[derive(Default)]
 pub struct Lists {
     vertices: List<f32>,
+    sources: List<u32>,
     triangles: List<u32>,
     verbs: List<u8>,
     coordinates: List<f32>,
@@ -59,6 +60,7 @@ impl Lists {
 
     fn hold_mesh(&mut self, case: &MeshCase) -> Held {
         self.vertices.lend(case.vertex_len);
+        self.sources.lend(case.source_len);
         self.triangles.lend(case.triangle_len);
         let options = case.options;
         let number = raw::tessellate(
@@ -70,6 +72,7 @@ impl Lists {
             options.cap.into(),
             options.merge,
             self.vertices.ours(),
+            self.sources.ours(),
             self.triangles.ours(),
             self.answer.ours(),
         );
@@ -77,13 +80,19 @@ impl Lists {
             verbs: &case.verbs,
             coordinates: &case.coordinates,
         };
-        let (vertices, triangles) = (self.vertices.theirs(), self.triangles.theirs());
-        let told = mesh::<Judge>(path, options, vertices, triangles);
+        let told = mesh::<Judge>(
+            path,
+            options,
+            self.vertices.theirs(),
+            self.sources.theirs(),
+            self.triangles.theirs(),
+        );
         let (n, m) = told.counts;
         self.answer.expect(&[told.place, n, m]);
         held(number, told.number)?;
         alike(self.answer.difference("answer"))?;
         alike(self.vertices.difference("vertices"))?;
+        alike(self.sources.difference("sources"))?;
         alike(self.triangles.difference("triangles"))?;
         Ok(number)
     }

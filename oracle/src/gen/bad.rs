@@ -5,7 +5,7 @@ use super::{case, Kind};
 use crate::case::Case;
 
 /// Lines that no damage to a short good line would bring.
-const BY_HAND: [&str; 34] = [
+const BY_HAND: [&str; 36] = [
     "",
     " ",
     "-",
@@ -35,7 +35,9 @@ const BY_HAND: [&str; 34] = [
     "window 0 p1",
     "window 9999999999 p1",
     "window 00000000001 c",
-    "cap 00000000 00000000 3F800000",
+    "cap 00000000 00000000 3F800000 0",
+    "cap 00000000 00000000 3F800000 00000000",
+    "cap 00000000 00000000 3F800000 00000000 65536",
     "read 4201 0 -",
     "read 0 8401 -",
     "read 0 0 4D3",
@@ -146,6 +148,7 @@ fn enlarged(rng: &mut Rng, line: String) -> String {
             "49153",
             "4201",
             "8401",
+            "65536",
             "256",
             "9999999999",
             "4294967296",

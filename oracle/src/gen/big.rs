@@ -47,6 +47,7 @@ fn mesh(rng: &mut Rng) -> MeshCase {
     MeshCase {
         options,
         vertex_len: room(rng, 5 * mesh.vertices.len()),
+        source_len: room(rng, mesh.vertices.len()),
         triangle_len: room(rng, 3 * mesh.triangles.len()),
         verbs: path.verbs,
         coordinates: path.coordinates,

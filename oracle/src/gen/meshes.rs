@@ -18,6 +18,7 @@ pub fn mesh(rng: &mut Rng) -> MeshCase {
     let mut case = MeshCase {
         options: options(rng, &drawn),
         vertex_len: 0,
+        source_len: 0,
         triangle_len: 0,
         verbs: drawn.verbs,
         coordinates: drawn.coordinates,
@@ -153,6 +154,7 @@ fn lend(rng: &mut Rng, case: &mut MeshCase) {
         // A refused path is lent short lists, to be found untouched.
         Mesh {
             vertices: vec![[0.0; 5]; rng.below(3)],
+            sources: Vec::new(),
             triangles: vec![[0; 3]; rng.below(3)],
         }
     });
@@ -171,10 +173,21 @@ fn lend(rng: &mut Rng, case: &mut MeshCase) {
         14 => (floats, 0),
         _ => (rng.below(floats + 1), rng.below(numbers + 1)),
     };
+    let count = mesh.vertices.len();
+    let source_len = match rng.below(12) {
+        0 | 1 => count.saturating_sub(1),
+        2 => count + 1,
+        3 => count + rng.below(60),
+        4 => rng.below(count + 1),
+        5 => 4 * count,
+        _ => count,
+    };
     case.vertex_len = vertex_len.min(MAX_VERTEX_LIST);
+    case.source_len = source_len.min(MAX_TRIANGLE_LIST);
     case.triangle_len = triangle_len.min(MAX_TRIANGLE_LIST);
     if rng.one_in(10_000) {
         case.vertex_len = MAX_VERTEX_LIST;
+        case.source_len = MAX_TRIANGLE_LIST;
         case.triangle_len = MAX_TRIANGLE_LIST;
     }
 }

@@ -2,7 +2,7 @@
 
 use super::rng::{ulps, Rng};
 use super::shapes::any_coordinate;
-use crate::case::Op;
+use crate::case::{CapCase, Op, MAX_CAP_ENDPOINT};
 use crate::mesh::WIDTHS;
 use crate::plane::{vector, Vector};
 
@@ -98,7 +98,7 @@ pub fn window(rng: &mut Rng) -> Vec<Op> {
 }
 
 /// What an accepted path brings; the advancement, which is only carried, of any finite size.
-pub fn cap(rng: &mut Rng) -> [f32; 4] {
+pub fn cap(rng: &mut Rng) -> CapCase {
     let width = match rng.below(3) {
         0 => rng.pick(&[WIDTHS.0, WIDTHS.1, 1.0, 2.0]),
         _ => rng.scale(-8, 13),
@@ -108,10 +108,17 @@ pub fn cap(rng: &mut Rng) -> [f32; 4] {
     } else {
         rng.scale(-10, 20)
     };
-    [
-        any_coordinate(rng),
-        any_coordinate(rng),
-        width * 0.5,
-        advancement,
-    ]
+    let endpoint = match rng.below(3) {
+        0 => rng.pick(&[0, 1, 32_767, 32_768, MAX_CAP_ENDPOINT]),
+        _ => rng.below(MAX_CAP_ENDPOINT + 1),
+    };
+    CapCase {
+        floats: [
+            any_coordinate(rng),
+            any_coordinate(rng),
+            width * 0.5,
+            advancement,
+        ],
+        endpoint,
+    }
 }

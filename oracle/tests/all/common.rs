@@ -14,7 +14,7 @@ pub const BUTT: u8 = 0;
 pub const SQUARE: u8 = 1;
 
 /// Room that is plenty for every path written by hand.
-pub const PLENTY: (usize, usize) = (500, 300);
+pub const PLENTY: (usize, usize, usize) = (500, 100, 300);
 
 pub type Run<'a> = (&'a [(f32, f32)], bool);
 
@@ -32,6 +32,7 @@ pub fn options(width: f32, limit: f32, join: u8, cap: u8) -> Options {
 pub struct Stroked {
     pub outcome: Outcome,
     pub vertices: Vec<f32>,
+    pub sources: Vec<u32>,
     pub triangles: Vec<u32>,
 }
 
@@ -59,18 +60,21 @@ fn stroked<R: Routines>(
     options: Options,
     verbs: &[u8],
     coordinates: &[f32],
-    (vertex_len, triangle_len): (usize, usize),
+    (vertex_len, source_len, triangle_len): (usize, usize, usize),
 ) -> Stroked {
     let mut vertices = vec![-7.0; vertex_len];
+    let mut sources = vec![7; source_len];
     let mut triangles = vec![7; triangle_len];
     let path = Path { verbs, coordinates };
-    let outcome = mesh::<R>(path, options, &mut vertices, &mut triangles);
+    let outcome = mesh::<R>(path, options, &mut vertices, &mut sources, &mut triangles);
     if outcome.number != 0 {
         assert!(vertices.iter().all(|&v| v == -7.0) && triangles.iter().all(|&t| t == 7));
+        assert!(sources.iter().all(|&s| s == 7));
     }
     Stroked {
         outcome,
         vertices,
+        sources,
         triangles,
     }
 }
@@ -80,7 +84,7 @@ pub fn stroke_verbs(
     options: Options,
     verbs: &[u8],
     coordinates: &[f32],
-    lent: (usize, usize),
+    lent: (usize, usize, usize),
 ) -> Stroked {
     let judged = stroked::<Judge>(options, verbs, coordinates, lent);
     let read = stroked::<Reading>(options, verbs, coordinates, lent);
@@ -88,7 +92,7 @@ pub fn stroke_verbs(
     judged
 }
 
-pub fn stroke_into(options: Options, runs: &[Run], lent: (usize, usize)) -> Stroked {
+pub fn stroke_into(options: Options, runs: &[Run], lent: (usize, usize, usize)) -> Stroked {
     let mut verbs = Vec::new();
     let mut coordinates = Vec::new();
     for (points, closed) in runs {

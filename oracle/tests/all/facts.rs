@@ -119,15 +119,24 @@ fn offset_points_stay_apart() {
 }
 
 /// The call on lists of those lengths; whatever it leaves alone must be as it was filled.
-fn call(case: &MeshCase, vertex_len: usize, triangle_len: usize) -> Outcome {
+fn call(case: &MeshCase, vertex_len: usize, source_len: usize, triangle_len: usize) -> Outcome {
     let mut vertices = filled_floats(vertex_len);
+    let mut sources: Vec<u32> = filled_numbers(source_len);
     let mut triangles: Vec<u32> = filled_numbers(triangle_len);
-    let outcome = mesh::<Judge>(path(case), case.options, &mut vertices, &mut triangles);
-    let (v, t) = match outcome.number {
-        0 => (5 * outcome.counts.0, 3 * outcome.counts.1),
+    let outcome = mesh::<Judge>(
+        path(case),
+        case.options,
+        &mut vertices,
+        &mut sources,
+        &mut triangles,
+    );
+    let (n, m) = match outcome.number {
+        0 => outcome.counts,
         _ => (0, 0),
     };
+    let (v, t) = (5 * n, 3 * m);
     assert_eq!(vertices[v..], filled_floats(vertex_len)[v..]);
+    assert_eq!(sources[n..], filled_numbers(source_len)[n..]);
     assert_eq!(triangles[t..], filled_numbers(triangle_len)[t..]);
     outcome
 }
@@ -138,18 +147,24 @@ fn exact_room_is_enough_and_one_less_is_not() {
         let mesh = match drawn::<Judge>(path(&case), case.options) {
             Ok(mesh) => mesh,
             Err(refusal) => {
-                assert_eq!(call(&case, 7, 5), refusal.into());
+                assert_eq!(call(&case, 7, 3, 5), refusal.into());
                 continue;
             }
         };
         let counts = (mesh.vertices.len(), mesh.triangles.len());
         let (v, t) = (5 * counts.0, 3 * counts.1);
-        assert_eq!(call(&case, v, t), Outcome::counted(0, counts));
-        assert_eq!(call(&case, v + 4, t + 2), Outcome::counted(0, counts));
-        if counts.0 > 0 {
-            assert_eq!(call(&case, v - 1, t), Outcome::counted(6, counts));
-            assert_eq!(call(&case, v, t - 1), Outcome::counted(7, counts));
-            assert_eq!(call(&case, v - 5, t - 3), Outcome::counted(6, counts));
+        let n = counts.0;
+        assert_eq!(call(&case, v, n, t), Outcome::counted(0, counts));
+        assert_eq!(
+            call(&case, v + 4, n + 1, t + 2),
+            Outcome::counted(0, counts)
+        );
+        if n > 0 {
+            assert_eq!(call(&case, v - 1, n, t), Outcome::counted(6, counts));
+            assert_eq!(call(&case, v, n - 1, t), Outcome::counted(6, counts));
+            assert_eq!(call(&case, v, n - 1, t - 1), Outcome::counted(6, counts));
+            assert_eq!(call(&case, v, n, t - 1), Outcome::counted(7, counts));
+            assert_eq!(call(&case, v - 5, n, t - 3), Outcome::counted(6, counts));
         }
     }
 }
@@ -158,7 +173,7 @@ fn exact_room_is_enough_and_one_less_is_not() {
 fn every_refusal_is_generated() {
     let mut seen = [0; 8];
     for case in generated(33, 20_000) {
-        let number = call(&case, case.vertex_len, case.triangle_len).number;
+        let number = call(&case, case.vertex_len, case.source_len, case.triangle_len).number;
         seen[number as usize] += 1;
     }
     // 5 is retired.

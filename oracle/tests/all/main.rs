@@ -16,5 +16,6 @@ mod reader;
 mod refusals;
 mod root;
 mod rules;
+mod sources;
 mod stl;
 mod widths;

@@ -91,12 +91,12 @@ fn p9_one_edge_and_its_room() {
         stroke_into(options(2.0, 4.0, MITER, BUTT), &[(edge, false)], lent).outcome
     };
     let outcome = |number, counts| oracle::outcome::Outcome::counted(number, counts);
-    assert_eq!(with((20, 6)), outcome(0, (4, 2)));
-    assert_eq!(with((15, 6)), outcome(6, (4, 2)));
-    assert_eq!(with((19, 6)), outcome(6, (4, 2)));
-    assert_eq!(with((20, 3)), outcome(7, (4, 2)));
-    assert_eq!(with((20, 5)), outcome(7, (4, 2)));
-    assert_eq!(with((15, 3)), outcome(6, (4, 2)));
+    assert_eq!(with((20, 4, 6)), outcome(0, (4, 2)));
+    assert_eq!(with((15, 4, 6)), outcome(6, (4, 2)));
+    assert_eq!(with((19, 4, 6)), outcome(6, (4, 2)));
+    assert_eq!(with((20, 4, 3)), outcome(7, (4, 2)));
+    assert_eq!(with((20, 4, 5)), outcome(7, (4, 2)));
+    assert_eq!(with((15, 4, 3)), outcome(6, (4, 2)));
 }
 
 #[test]

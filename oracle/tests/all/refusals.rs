@@ -114,14 +114,14 @@ fn lower_numbers_come_first() {
     let with = |options, verbs: &[u8], coordinates: &[f32], lent| {
         stroke_verbs(options, verbs, coordinates, lent).number()
     };
-    assert_eq!(with(bad_option, &[9; 65_537], &[], (0, 0)), 1);
-    assert_eq!(with(GOOD, &[9; 65_537], &[f32::NAN], (0, 0)), 2);
-    assert_eq!(with(GOOD, &[0, 1], &[f32::NAN; 4], (0, 0)), 3);
+    assert_eq!(with(bad_option, &[9; 65_537], &[], (0, 0, 0)), 1);
+    assert_eq!(with(GOOD, &[9; 65_537], &[f32::NAN], (0, 0, 0)), 2);
+    assert_eq!(with(GOOD, &[0, 1], &[f32::NAN; 4], (0, 0, 0)), 3);
     assert_eq!(
-        with(GOOD, &[0, 1, 2], &[1.0, 2.0, 3.0, f32::NAN], (0, 0)),
+        with(GOOD, &[0, 1, 2], &[1.0, 2.0, 3.0, f32::NAN], (0, 0, 0)),
         4
     );
-    assert_eq!(with(GOOD, &[0, 1, 2], &[1.0, 2.0, 3.0, 4.0], (0, 0)), 6);
-    assert_eq!(with(GOOD, &[0, 1, 2], &[1.0, 2.0, 3.0, 4.0], (20, 0)), 7);
-    assert_eq!(with(GOOD, &[0, 1, 2], &[1.0, 2.0, 3.0, 4.0], (20, 6)), 0);
+    assert_eq!(with(GOOD, &[0, 1, 2], &[1.0, 2.0, 3.0, 4.0], (0, 0, 0)), 6);
+    assert_eq!(with(GOOD, &[0, 1, 2], &[1.0, 2.0, 3.0, 4.0], (20, 4, 0)), 7);
+    assert_eq!(with(GOOD, &[0, 1, 2], &[1.0, 2.0, 3.0, 4.0], (20, 4, 6)), 0);
 }

@@ -70,7 +70,13 @@ fn a_zigzag_of_65536_verbs() {
     assert_eq!(greatest, Some(&(drawn.vertices.len() as u32 - 1)));
     let (n, m) = (drawn.vertices.len(), drawn.triangles.len());
     let call = |floats: usize, numbers: usize| {
-        let told = mesh::<Judge>(path, bevel, &mut vec![0.0; floats], &mut vec![0; numbers]);
+        let told = mesh::<Judge>(
+            path,
+            bevel,
+            &mut vec![0.0; floats],
+            &mut vec![0; n],
+            &mut vec![0; numbers],
+        );
         (told.number, told.counts)
     };
     assert_eq!(call(5 * n, 3 * m), (0, (n, m)));

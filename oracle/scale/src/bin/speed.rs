@@ -55,23 +55,39 @@ fn main() {
         .and_then(|word| word.parse().ok())
         .unwrap_or(1000);
     let mut vertices = vec![0.0f32; 20 * points];
+    let mut sources = vec![0u32; 4 * points];
     let mut triangles = vec![0u32; 12 * points];
     for kind in ["gentle", "sharp", "right"] {
         let Input { verbs, coords } = input(kind, points);
         let mut answer = [0usize; 3];
-        let mut ours = |v: &mut [f32], t: &mut [u32]| {
-            assert_eq!(
-                raw::tessellate(&verbs, &coords, 2.0, 4.0, 0, 0, MERGE, v, t, &mut answer),
-                0
+        let mut ours = |v: &mut [f32], s: &mut [u32], t: &mut [u32]| {
+            let (width, limit, join, cap) = (2.0, 4.0, 0, 0);
+            let number = raw::tessellate(
+                &verbs,
+                &coords,
+                width,
+                limit,
+                join,
+                cap,
+                MERGE,
+                v,
+                s,
+                t,
+                &mut answer,
             );
+            assert_eq!(number, 0);
             answer
         };
-        let [_, n, m] = ours(&mut vertices, &mut triangles);
+        let [_, n, m] = ours(&mut vertices, &mut sources, &mut triangles);
         let plenty = best(points, || {
-            ours(&mut vertices, &mut triangles);
+            ours(&mut vertices, &mut sources, &mut triangles);
         });
         let exact = best(points, || {
-            ours(&mut vertices[..5 * n], &mut triangles[..3 * m]);
+            ours(
+                &mut vertices[..5 * n],
+                &mut sources[..n],
+                &mut triangles[..3 * m],
+            );
         });
         let options = Options {
             width: 2.0,
@@ -85,7 +101,7 @@ fn main() {
                 verbs: &verbs,
                 coordinates: &coords,
             };
-            let told = mesh::<Judge>(path, options, &mut vertices, &mut triangles);
+            let told = mesh::<Judge>(path, options, &mut vertices, &mut sources, &mut triangles);
             assert_eq!(told.number, 0);
         });
         println!("{kind}: {plenty:.1} ns a point with plenty of room, {exact:.1} with exact room, the oracle {oracle:.1}");
