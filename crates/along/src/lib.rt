@@ -60,34 +60,42 @@ pub struct Stretch {
 // its sides have.
 fn pass_joint(
     v: &mut [f32],
+    src: &mut [u32],
     t: &mut [Index],
     pass: Pass,
     leg: Leg,
     strip: Strip,
     next: Leg,
 ) -> Counts
-    requires { ⌜ StripFits (pass .write) strip (jointOf (pass .stroke) leg next ∷ []) (lent (now v) (now t)) ⌝ }
+    requires { ⌜ StripFits (pass .write) strip (jointOf (pass .stroke) leg next ∷ []) (lent (now v) (now src) (now t)) ⌝ }
     ensures { λ r. ⌜ r ≡ countsOf (jointOf (pass .stroke) leg next) ⌝ }
-    ensures { λ _. ⌜ Lays (pass .write) (strip .place) (pieceOf strip (jointOf (pass .stroke) leg next ∷ [])) (lent (now (v .entry)) (now (t .entry))) (lent (now (v .exit)) (now (t .exit))) ⌝ }
+    ensures { λ _. ⌜ Lays (pass .write) (strip .place) (pieceOf strip (jointOf (pass .stroke) leg next ∷ [])) (lent (now (v .entry)) (now (src .entry)) (now (t .entry))) (lent (now (v .exit)) (now (src .exit)) (now (t .exit))) ⌝ }
 {
     if pass.write {
         let j = joint_of(pass.stroke, leg, next);
-        lay_joint(v, t, strip, j);
+        lay_joint(v, src, t, strip, j);
         return counts_of(j);
     }
     joint_counts(pass.stroke, leg, next)
 }
 
 // The next point, which is kept.
-fn pass_kept(v: &mut [f32], t: &mut [Index], pass: Pass, w: Walk, p: Endpoint) -> Walk
-    requires { ⌜ StripFits (pass .write) (w .strip) (advanced (pass .stroke) (w .leg) p) (lent (now v) (now t)) ⌝ }
-    ensures { λ r. ⌜ Walks (pass .write) (advanced (pass .stroke) (w .leg) p) (nextLegOf (pass .stroke .«half_width») (w .leg) p) w (lent (now (v .entry)) (now (t .entry))) (lent (now (v .exit)) (now (t .exit))) r ⌝ }
+fn pass_kept(
+    v: &mut [f32],
+    src: &mut [u32],
+    t: &mut [Index],
+    pass: Pass,
+    w: Walk,
+    p: Endpoint,
+) -> Walk
+    requires { ⌜ StripFits (pass .write) (w .strip) (advanced (pass .stroke) (w .leg) p) (lent (now v) (now src) (now t)) ⌝ }
+    ensures { λ r. ⌜ Walks (pass .write) (advanced (pass .stroke) (w .leg) p) (nextLegOf (pass .stroke .«half_width») (w .leg) p) w (lent (now (v .entry)) (now (src .entry)) (now (t .entry))) (lent (now (v .exit)) (now (src .exit)) (now (t .exit))) r ⌝ }
 {
     let o = pass.stroke;
     let leg = w.leg;
     let strip = w.strip;
     let next = next_leg(o.half_width, leg, p);
-    let c = pass_joint(v, t, pass, leg, strip, next);
+    let c = pass_joint(v, src, t, pass, leg, strip, next);
     Walk {
         leg: next,
         strip: step(strip, c.positive, c.negative),
@@ -106,29 +114,45 @@ fn is_dropped(limit: f32, sure: bool, leg: Leg, p: Endpoint) -> bool
 }
 
 // The next point, which may be dropped.
-fn pass_point(v: &mut [f32], t: &mut [Index], pass: Pass, w: Walk, p: Endpoint, sure: bool) -> Walk
-    requires { ⌜ StripFits (pass .write) (w .strip) (visited sure (pass .stroke) (w .leg) p) (lent (now v) (now t)) ⌝ }
-    ensures { λ r. ⌜ Walks (pass .write) (visited sure (pass .stroke) (w .leg) p) (visitOf sure (pass .stroke) (w .leg) p) w (lent (now (v .entry)) (now (t .entry))) (lent (now (v .exit)) (now (t .exit))) r ⌝ }
+fn pass_point(
+    v: &mut [f32],
+    src: &mut [u32],
+    t: &mut [Index],
+    pass: Pass,
+    w: Walk,
+    p: Endpoint,
+    sure: bool,
+) -> Walk
+    requires { ⌜ StripFits (pass .write) (w .strip) (visited sure (pass .stroke) (w .leg) p) (lent (now v) (now src) (now t)) ⌝ }
+    ensures { λ r. ⌜ Walks (pass .write) (visited sure (pass .stroke) (w .leg) p) (visitOf sure (pass .stroke) (w .leg) p) w (lent (now (v .entry)) (now (src .entry)) (now (t .entry))) (lent (now (v .exit)) (now (src .exit)) (now (t .exit))) r ⌝ }
 {
     let o = pass.stroke;
     if is_dropped(o.near, sure, w.leg, p) {
         return w;
     }
-    pass_kept(v, t, pass, w, p)
+    pass_kept(v, src, t, pass, w, p)
 }
 
 // The points of a stretch.
-fn pass_points(v: &mut [f32], t: &mut [Index], pass: Pass, w: Walk, p: &[f32], s: Stretch) -> Walk
+fn pass_points(
+    v: &mut [f32],
+    src: &mut [u32],
+    t: &mut [Index],
+    pass: Pass,
+    w: Walk,
+    p: &[f32],
+    s: Stretch,
+) -> Walk
     requires { ⌜ s .first .0 + length (now p) < idLimit ⌝ }
-    requires { ⌜ StripFits (pass .write) (w .strip) (passed (s .sure) (pass .stroke) (w .leg) (drop (s .from) (endpointsOf (s .first .0) (now p)))) (lent (now v) (now t)) ⌝ }
-    ensures { λ r. ⌜ Walks (pass .write) (passed (s .sure) (pass .stroke) (w .leg) (drop (s .from) (endpointsOf (s .first .0) (now (p .entry))))) (walked (s .sure) (pass .stroke) (w .leg) (drop (s .from) (endpointsOf (s .first .0) (now (p .entry))))) w (lent (now (v .entry)) (now (t .entry))) (lent (now (v .exit)) (now (t .exit))) r ⌝ }
+    requires { ⌜ StripFits (pass .write) (w .strip) (passed (s .sure) (pass .stroke) (w .leg) (drop (s .from) (endpointsOf (s .first .0) (now p)))) (lent (now v) (now src) (now t)) ⌝ }
+    ensures { λ r. ⌜ Walks (pass .write) (passed (s .sure) (pass .stroke) (w .leg) (drop (s .from) (endpointsOf (s .first .0) (now (p .entry))))) (walked (s .sure) (pass .stroke) (w .leg) (drop (s .from) (endpointsOf (s .first .0) (now (p .entry))))) w (lent (now (v .entry)) (now (src .entry)) (now (t .entry))) (lent (now (v .exit)) (now (src .exit)) (now (t .exit))) r ⌝ }
 {
     let mut w = w;
     let mut i = s.from;
     let end = p.len() / 2;
     while i < end {
         let c = endpoint_at(p, s.first, i);
-        w = pass_point(v, t, pass, w, c, s.sure);
+        w = pass_point(v, src, t, pass, w, c, s.sure);
         i += 1;
     }
     w

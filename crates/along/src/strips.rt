@@ -44,60 +44,90 @@ fn first_leg(h: f32, p: &[f32], first: EndpointId, i: usize) -> Leg
 }
 
 // A cap, written or only counted.
-fn pass_cap(v: &mut [f32], t: &mut [Index], write: bool, s: Strip, j: EndpointData) -> Strip
-    requires { ⌜ StripFits write s (j ∷ []) (lent (now v) (now t)) ⌝ }
-    ensures { λ r. ⌜ StripPasses write (j ∷ []) s (lent (now (v .entry)) (now (t .entry))) (lent (now (v .exit)) (now (t .exit))) r ⌝ }
+fn pass_cap(
+    v: &mut [f32],
+    src: &mut [u32],
+    t: &mut [Index],
+    write: bool,
+    s: Strip,
+    j: EndpointData,
+) -> Strip
+    requires { ⌜ StripFits write s (j ∷ []) (lent (now v) (now src) (now t)) ⌝ }
+    ensures { λ r. ⌜ StripPasses write (j ∷ []) s (lent (now (v .entry)) (now (src .entry)) (now (t .entry))) (lent (now (v .exit)) (now (src .exit)) (now (t .exit))) r ⌝ }
 {
-    lay_joint_if(v, t, s, j, write);
+    lay_joint_if(v, src, t, s, j, write);
     step(s, positive_count(j), negative_count(j))
 }
 
 // The start cap.
-fn begin(v: &mut [f32], t: &mut [Index], pass: Pass, leg: Leg, base: VertexId) -> Walk
-    requires { ⌜ StripFits (pass .write) (startOf base) (startCapOf (pass .stroke) leg ∷ []) (lent (now v) (now t)) ⌝ }
-    ensures { λ r. ⌜ Walks (pass .write) (startCapOf (pass .stroke) leg ∷ []) leg (record { leg = leg; strip = startOf base }) (lent (now (v .entry)) (now (t .entry))) (lent (now (v .exit)) (now (t .exit))) r ⌝ }
+fn begin(
+    v: &mut [f32],
+    src: &mut [u32],
+    t: &mut [Index],
+    pass: Pass,
+    leg: Leg,
+    base: VertexId,
+) -> Walk
+    requires { ⌜ StripFits (pass .write) (startOf base) (startCapOf (pass .stroke) leg ∷ []) (lent (now v) (now src) (now t)) ⌝ }
+    ensures { λ r. ⌜ Walks (pass .write) (startCapOf (pass .stroke) leg ∷ []) leg (record { leg = leg; strip = startOf base }) (lent (now (v .entry)) (now (src .entry)) (now (t .entry))) (lent (now (v .exit)) (now (src .exit)) (now (t .exit))) r ⌝ }
 {
     let j = start_cap(pass.stroke, leg);
     let s = start(base);
     Walk {
         leg: leg,
-        strip: pass_cap(v, t, pass.write, s, j),
+        strip: pass_cap(v, src, t, pass.write, s, j),
     }
 }
 
 // The end cap.
-fn finish(v: &mut [f32], t: &mut [Index], pass: Pass, w: Walk) -> Strip
-    requires { ⌜ StripFits (pass .write) (w .strip) (endCapOf (pass .stroke) (w .leg) ∷ []) (lent (now v) (now t)) ⌝ }
-    ensures { λ r. ⌜ StripPasses (pass .write) (endCapOf (pass .stroke) (w .leg) ∷ []) (w .strip) (lent (now (v .entry)) (now (t .entry))) (lent (now (v .exit)) (now (t .exit))) r ⌝ }
+fn finish(v: &mut [f32], src: &mut [u32], t: &mut [Index], pass: Pass, w: Walk) -> Strip
+    requires { ⌜ StripFits (pass .write) (w .strip) (endCapOf (pass .stroke) (w .leg) ∷ []) (lent (now v) (now src) (now t)) ⌝ }
+    ensures { λ r. ⌜ StripPasses (pass .write) (endCapOf (pass .stroke) (w .leg) ∷ []) (w .strip) (lent (now (v .entry)) (now (src .entry)) (now (t .entry))) (lent (now (v .exit)) (now (src .exit)) (now (t .exit))) r ⌝ }
 {
     let j = end_cap(pass.stroke, w.leg);
-    pass_cap(v, t, pass.write, w.strip, j)
+    pass_cap(v, src, t, pass.write, w.strip, j)
 }
 
 // An open run: the start cap, the joins, the end cap.
-pub fn pass_open(v: &mut [f32], t: &mut [Index], pass: Pass, p: &[f32], at: At, i: usize) -> Strip
+pub fn pass_open(
+    v: &mut [f32],
+    src: &mut [u32],
+    t: &mut [Index],
+    pass: Pass,
+    p: &[f32],
+    at: At,
+    i: usize,
+) -> Strip
     requires { ⌜ Within (now p) (at .endpoint .0) i ⌝ }
-    requires { ⌜ StripFits (pass .write) (startOf (at .vertex)) (jointsOf false (pass .stroke) (runFrom (pass .stroke .near) (now p) (at .endpoint .0) i)) (lent (now v) (now t)) ⌝ }
-    ensures { λ r. ⌜ StripPasses (pass .write) (jointsOf false (pass .stroke) (runFrom (pass .stroke .near) (now (p .entry)) (at .endpoint .0) i)) (startOf (at .vertex)) (lent (now (v .entry)) (now (t .entry))) (lent (now (v .exit)) (now (t .exit))) r ⌝ }
+    requires { ⌜ StripFits (pass .write) (startOf (at .vertex)) (jointsOf false (pass .stroke) (runFrom (pass .stroke .near) (now p) (at .endpoint .0) i)) (lent (now v) (now src) (now t)) ⌝ }
+    ensures { λ r. ⌜ StripPasses (pass .write) (jointsOf false (pass .stroke) (runFrom (pass .stroke .near) (now (p .entry)) (at .endpoint .0) i)) (startOf (at .vertex)) (lent (now (v .entry)) (now (src .entry)) (now (t .entry))) (lent (now (v .exit)) (now (src .exit)) (now (t .exit))) r ⌝ }
 {
     let o = pass.stroke;
     let first = at.endpoint;
     let leg = first_leg(o.half_width, p, first, i);
-    let begun = begin(v, t, pass, leg, at.vertex);
+    let begun = begin(v, src, t, pass, leg, at.vertex);
     let rest = Stretch {
         first,
         from: i + 1,
         sure: false,
     };
-    let w = pass_points(v, t, pass, begun, p, rest);
-    finish(v, t, pass, w)
+    let w = pass_points(v, src, t, pass, begun, p, rest);
+    finish(v, src, t, pass, w)
 }
 
 // Round to p0 and on to p1, the points 0 and i: the joins n-1 and 0 of a closed run.
-fn go_round(v: &mut [f32], t: &mut [Index], pass: Pass, w: Walk, p: &[f32], on: Stretch) -> Strip
+fn go_round(
+    v: &mut [f32],
+    src: &mut [u32],
+    t: &mut [Index],
+    pass: Pass,
+    w: Walk,
+    p: &[f32],
+    on: Stretch,
+) -> Strip
     requires { ⌜ Within (now p) (on .first .0) (on .from) ⌝ }
-    requires { ⌜ StripFits (pass .write) (w .strip) (roundOf (pass .stroke) (w .leg) (endpointAt (now p) (on .first .0) 0) (endpointAt (now p) (on .first .0) (on .from))) (lent (now v) (now t)) ⌝ }
-    ensures { λ r. ⌜ StripPasses (pass .write) (roundOf (pass .stroke) (w .leg) (endpointAt (now (p .entry)) (on .first .0) 0) (endpointAt (now (p .entry)) (on .first .0) (on .from))) (w .strip) (lent (now (v .entry)) (now (t .entry))) (lent (now (v .exit)) (now (t .exit))) r ⌝ }
+    requires { ⌜ StripFits (pass .write) (w .strip) (roundOf (pass .stroke) (w .leg) (endpointAt (now p) (on .first .0) 0) (endpointAt (now p) (on .first .0) (on .from))) (lent (now v) (now src) (now t)) ⌝ }
+    ensures { λ r. ⌜ StripPasses (pass .write) (roundOf (pass .stroke) (w .leg) (endpointAt (now (p .entry)) (on .first .0) 0) (endpointAt (now (p .entry)) (on .first .0) (on .from))) (w .strip) (lent (now (v .entry)) (now (src .entry)) (now (t .entry))) (lent (now (v .exit)) (now (src .exit)) (now (t .exit))) r ⌝ }
 {
     let first = on.first;
     let i = on.from;
@@ -106,22 +136,30 @@ fn go_round(v: &mut [f32], t: &mut [Index], pass: Pass, w: Walk, p: &[f32], on: 
         from: 0,
         sure: true,
     };
-    let home = pass_points(v, t, pass, w, &p[..2], p0);
+    let home = pass_points(v, src, t, pass, w, &p[..2], p0);
     let p1 = Stretch {
         first: endpoint_after(first, i),
         from: 0,
         sure: true,
     };
     let from = 2 * i;
-    let end = pass_points(v, t, pass, home, &p[from..from + 2], p1);
+    let end = pass_points(v, src, t, pass, home, &p[from..from + 2], p1);
     end.strip
 }
 
 // A closed run's joins.
-pub fn pass_closed(v: &mut [f32], t: &mut [Index], pass: Pass, p: &[f32], at: At, i: usize) -> Strip
+pub fn pass_closed(
+    v: &mut [f32],
+    src: &mut [u32],
+    t: &mut [Index],
+    pass: Pass,
+    p: &[f32],
+    at: At,
+    i: usize,
+) -> Strip
     requires { ⌜ Within (now p) (at .endpoint .0) i ⌝ }
-    requires { ⌜ StripFits (pass .write) (startOf (at .vertex)) (jointsOf true (pass .stroke) (runFrom (pass .stroke .near) (now p) (at .endpoint .0) i)) (lent (now v) (now t)) ⌝ }
-    ensures { λ r. ⌜ StripPasses (pass .write) (jointsOf true (pass .stroke) (runFrom (pass .stroke .near) (now (p .entry)) (at .endpoint .0) i)) (startOf (at .vertex)) (lent (now (v .entry)) (now (t .entry))) (lent (now (v .exit)) (now (t .exit))) r ⌝ }
+    requires { ⌜ StripFits (pass .write) (startOf (at .vertex)) (jointsOf true (pass .stroke) (runFrom (pass .stroke .near) (now p) (at .endpoint .0) i)) (lent (now v) (now src) (now t)) ⌝ }
+    ensures { λ r. ⌜ StripPasses (pass .write) (jointsOf true (pass .stroke) (runFrom (pass .stroke .near) (now (p .entry)) (at .endpoint .0) i)) (startOf (at .vertex)) (lent (now (v .entry)) (now (src .entry)) (now (t .entry))) (lent (now (v .exit)) (now (src .exit)) (now (t .exit))) r ⌝ }
 {
     let o = pass.stroke;
     let first = at.endpoint;
@@ -135,11 +173,11 @@ pub fn pass_closed(v: &mut [f32], t: &mut [Index], pass: Pass, p: &[f32], at: At
         from: i + 1,
         sure: false,
     };
-    let w = pass_points(v, t, pass, begun, p, rest);
+    let w = pass_points(v, src, t, pass, begun, p, rest);
     let second = Stretch {
         first,
         from: i,
         sure: true,
     };
-    go_round(v, t, pass, w, p, second)
+    go_round(v, src, t, pass, w, p, second)
 }

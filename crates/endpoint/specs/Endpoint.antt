@@ -1,5 +1,5 @@
 -- What an endpoint's parts mean. Assumes nothing.
-use Prim.Native.Nat.{ℕ, _+_}
+use Prim.Native.Nat.{ℕ, _+_, _*_}
 use mathlib.Core.Bool.{false}
 use lib.Ieee.{Float, neg}
 use Rattle.plane.specs.F32.{f32}
@@ -15,9 +15,9 @@ use Rattle.endpoint.specs.declared.SidePoints.{SidePoints}
 use Rattle.endpoint.specs.declared.SidePoints.the-variants.{Single, Pair}
 use Rattle.endpoint.specs.declared.VertexId.{VertexId}
 
--- a number is a u32: it is below
+-- a number is a u32, and so is what a vertex's record says of an endpoint's: a number is below
 abbrev pub idLimit : ℕ
-idLimit = 4294967296
+idLimit = 2147483648
 
 -- "An endpoint number and a vertex number are counted apart": n behind another
 abbrev pub endpointAfter : EndpointId → ℕ → EndpointId
@@ -45,6 +45,14 @@ blankOf = record {
 abbrev pub signOf : Side → Float
 signOf Positive = f32 0x3f800000
 signOf Negative = neg (f32 0x3f800000)
+
+-- W-206, what a vertex's record says: "twice the endpoint's number, plus one on the negative side"
+abbrev pub sideBit : Side → ℕ
+sideBit Positive = 0
+sideBit Negative = 1
+
+abbrev pub sourceOf : EndpointId → Side → ℕ
+sourceOf e side = 2 * e .0 + sideBit side
 
 unfoldable pub singleOf : Point → SidePoints
 singleOf p = Single (p .x) (p .y)

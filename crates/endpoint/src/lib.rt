@@ -2,7 +2,7 @@
 use plane::vector::Point;
 ghost use mathlib.Core.Path.{_≡_};
 ghost use Prim.Native.Nat.{_+_, _<_};
-ghost use Rattle.endpoint.specs.Endpoint.{idLimit, endpointAfter, vertexAfter, blankOf, signOf, singleOf, pairOf, sideCountOf};
+ghost use Rattle.endpoint.specs.Endpoint.{idLimit, endpointAfter, vertexAfter, blankOf, signOf, sideBit, sourceOf, singleOf, pairOf, sideCountOf};
 
 // Endpoints and vertices are counted apart.
 pub struct EndpointId(pub u32);
@@ -106,6 +106,23 @@ pub fn pair(p: Point, q: Point) -> SidePoints
     ensures { λ r. ⌜ r ≡ pairOf p q ⌝ }
 {
     SidePoints::Pair(p.x, p.y, q.x, q.y)
+}
+
+fn side_bit(side: Side) -> u32
+    ensures { λ r. ⌜ r ≡ sideBit side ⌝ }
+{
+    match side {
+        Side::Positive => 0,
+        Side::Negative => 1,
+    }
+}
+
+// What the record of a vertex says: the endpoint and the side that it came from.
+pub fn source_of(id: EndpointId, side: Side) -> u32
+    requires { ⌜ id .0 < idLimit ⌝ }
+    ensures { λ r. ⌜ r ≡ sourceOf id side ⌝ }
+{
+    2 * id.0 + side_bit(side)
 }
 
 // How many vertices a side has.

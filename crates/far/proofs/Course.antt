@@ -6,8 +6,8 @@ use Rattle.endpoint.specs.declared.Endpoint.{Endpoint}
 use Rattle.kept.specs.Kept.{keptPoints}
 use Rattle.joints.specs.Leg.{legOf, firstLegOf, nextLegOf, legsFrom}
 use Rattle.joints.specs.declared.leg.Leg.{Leg}
-use Rattle.kept.specs.All.{All}
-use Rattle.kept.proofs.All.{all-append}
+use Rattle.lists.specs.All.{All}
+use Rattle.lists.proofs.All.{all-append}
 use Rattle.kept.proofs.Keeping.{Chain, Spaced, kept-all, kept-spaced}
 use Rattle.rounding.proofs.Results.{Within}
 use Rattle.far.specs.Short.{NotShort, legsOf, Inside}

@@ -20,8 +20,8 @@ use Rattle.options.specs.declared.Stroke.{Stroke}
 use Rattle.path.proofs.Laws.{within-at}
 use Rattle.kept.specs.Points.{endpointsOf}
 use Rattle.kept.specs.Kept.{keptPoints}
-use Rattle.kept.specs.All.{All}
-use Rattle.kept.proofs.All.{all-append, all-take, all-drop}
+use Rattle.lists.specs.All.{All}
+use Rattle.lists.proofs.All.{all-append, all-take, all-drop}
 use Rattle.runs.specs.Runs.{runsOf}
 use Rattle.rounding.proofs.Results.{Within}
 use Rattle.far.specs.Short.{soNear, NotShort, legsOf, meshEdges, Inside}

@@ -12,7 +12,7 @@ use Rattle.path.specs.Coordinates.{coordinateLimit}
 use Rattle.path.specs.Runs.{Run}
 use Rattle.options.specs.Options.{mergeIn}
 use Rattle.options.specs.declared.Stroke.{Stroke}
-use Rattle.kept.specs.All.{All}
+use Rattle.lists.specs.All.{All}
 use Rattle.kept.specs.Kept.{keptPoints}
 use Rattle.joints.specs.Leg.{firstLegOf, legsFrom}
 use Rattle.joints.specs.declared.leg.Leg.{Leg}

@@ -5,7 +5,7 @@ use mathlib.Core.Bool.{Bool, true, false, _&&_, cond, true≢false}
 use mathlib.Core.List.{List, [], _∷_, _++_, append-nil}
 use Rattle.endpoint.specs.declared.Endpoint.{Endpoint}
 use Rattle.kept.specs.Kept.{near, keptBehind, allNear, trimmed, keptPoints}
-use Rattle.kept.specs.All.{All}
+use Rattle.lists.specs.All.{All}
 use lib.Ieee.{Float}
 
 module _ (limit : Float) where
@@ -22,7 +22,7 @@ module _ (limit : Float) where
 
   -- ---- no point is made anew
   module _ (P : Endpoint → Type 0) where
-    behind-all : (l : Endpoint) (ps : List Endpoint) → All P ps → All P (keptBehind limit l ps)
+    pub behind-all : (l : Endpoint) (ps : List Endpoint) → All P ps → All P (keptBehind limit l ps)
     unfolding keptBehind
     behind-all l [] a = tt
     behind-all l (p ∷ ps) a = go (near limit l p) (behind-all l ps (a .1)) (behind-all p ps (a .1))

@@ -1,8 +1,8 @@
 -- For the layers above: `Indexed` (endpoints by their index), `Looks` (what the looks say of the kept points), `Lengths` (how many are kept), `Keeping` (what
--- kept points have) and `All` (laws of its word for lists); `Further` is below these.
+-- kept points have) and `Numbered` (so their numbers are below the limit); `Further` is below these.
 pub mod Indexed
 pub mod Looks
 pub mod Lengths
 pub mod Keeping
-pub mod All
+pub mod Numbered
 pub mod Further

@@ -1,6 +1,6 @@
 -- Demand 3 of the whole mesh: each run stands as its own facts say, and the answer's counts decide about room. Assumes nothing.
 use Prim.Native.Nat.{ℕ, _+_, _*_, _/_, _≤_, _<_}
-use mathlib.Core.Path.{_≡_, refl}
+use mathlib.Core.Path.{_≡_, refl, _∙_}
 use mathlib.Core.List.{List, [], _∷_}
 use native.Mathlib.Omega.{arith}
 use borrow.Author.Tests.{lt-ltb, le-ltb}
@@ -18,15 +18,16 @@ use Rattle.path.proofs.Laws.{sound}
 use Rattle.path.proofs.Runs.{formed, runs-verbs, runs-points}
 use Rattle.kept.specs.Points.{endpointsOf}
 use Rattle.kept.proofs.Indexed.{points-length}
-use Rattle.pieces.specs.Piece.{Lists, lent, flatV, flatT}
-use Rattle.pieces.proofs.Pieces.{length-flatV, length-flatT}
+use Rattle.pieces.specs.Piece.{Lists, lent, flatV, flatS, flatT}
+use Rattle.pieces.proofs.Pieces.{length-flatV, length-flatS, length-flatT}
 use Rattle.run.specs.Run.{shapeCount}
 use Rattle.run.proofs.Facts.{run-covers, run-counts}
 use Rattle.runs.specs.Runs.{runsOf, drawnOf, meshVertices, meshCount, meshTriangles}
 use Rattle.runs.proofs.Runs.{length-vertices}
 use Rattle.mesh.specs.Answer.{withCounts}
+use Rattle.mesh.proofs.Rooms.{smaller-both, smaller-least}
 use Rattle.mesh.specs.Demand3.{EarnsNone, AllStand, Written, Roomed, Demand3}
-use Rattle.mesh.specs.Mesh.{Outcome, refused, acceptedOf, strokedOf, outcomeOf}
+use Rattle.mesh.specs.Mesh.{Outcome, refused, vertexPlaces, acceptedOf, strokedOf, outcomeOf}
 
 -- ---- run by run
 pub all-stand : (o : Stroke) (base : ℕ) (rs : List (Run Endpoint)) → AllStand o base rs
@@ -42,36 +43,53 @@ module _ (o : Stroke) (rs : List (Run Endpoint)) (l : Lists) where
   abbrev m : ℕ
   m = length (meshTriangles o 0 rs)
 
-  no-vertices : length (l .vertices) < 5 * n → acceptedOf l o rs ≡ refused l (withCounts (numberOf vertexRoom) n m)
-  unfolding acceptedOf
-  no-vertices h = rw (lt-ltb (length (l .vertices) / 5) n (omega arith))
+  abbrev either : (vertexPlaces l ≤ length (l .vertices) / 5) × (vertexPlaces l ≤ length (l .sources))
+  either = smaller-both (length (l .vertices) / 5) (length (l .sources))
 
-  no-triangles : 5 * n ≤ length (l .vertices) → length (l .triangles) < 3 * m → acceptedOf l o rs ≡ refused l (withCounts (numberOf triangleRoom) n m)
+  no-vertices : vertexPlaces l < n → acceptedOf l o rs ≡ refused l (withCounts (numberOf vertexRoom) n m)
   unfolding acceptedOf
-  no-triangles h g = rw (le-ltb (length (l .vertices) / 5) n (omega arith), lt-ltb (length (l .triangles) / 3) m (omega arith))
+  no-vertices h = rw (lt-ltb (vertexPlaces l) n h)
+
+  places : 5 * n ≤ length (l .vertices) → n ≤ length (l .sources) → n ≤ vertexPlaces l
+  places h g = smaller-least n (length (l .vertices) / 5) (length (l .sources)) (omega arith) g
+
+  no-triangles : n ≤ vertexPlaces l → length (l .triangles) < 3 * m → acceptedOf l o rs ≡ refused l (withCounts (numberOf triangleRoom) n m)
+  unfolding acceptedOf
+  no-triangles h g = rw (le-ltb (vertexPlaces l) n h, lt-ltb (length (l .triangles) / 3) m (omega arith))
 
   abbrev whole : Outcome
-  whole = record { answer = withCounts (numberOf accepted) n m; lists = lent (over (flatV (meshVertices o rs)) (l .vertices)) (over (flatT (meshTriangles o 0 rs)) (l .triangles)) }
+  whole = record {
+    answer = withCounts (numberOf accepted) n m;
+    lists = lent (over (flatV (meshVertices o rs)) (l .vertices)) (over (flatS (meshVertices o rs)) (l .sources)) (over (flatT (meshTriangles o 0 rs)) (l .triangles));
+  }
 
-  module _ (h : 5 * n ≤ length (l .vertices)) (g : 3 * m ≤ length (l .triangles)) where
+  module _ (h : 5 * n ≤ length (l .vertices)) (f : n ≤ length (l .sources)) (g : 3 * m ≤ length (l .triangles)) where
     is-whole : acceptedOf l o rs ≡ whole
     unfolding acceptedOf
-    is-whole = rw (le-ltb (length (l .vertices) / 5) n (omega arith), le-ltb (length (l .triangles) / 3) m (omega arith))
+    is-whole = rw (le-ltb (vertexPlaces l) n (places h f), le-ltb (length (l .triangles) / 3) m (omega arith))
 
     all-written : Written o rs l whole
     all-written =
         let lv : length (flatV (meshVertices o rs)) ≡ 5 * n = omega (arith, length-flatV (meshVertices o rs), length-vertices o rs) in
+        let ls : length (flatS (meshVertices o rs)) ≡ n = length-flatS (meshVertices o rs) ∙ length-vertices o rs in
         let lt = length-flatT (meshTriangles o 0 rs) in
         record {
           answer = refl;
           vertices = rw (← lv) (take-over (flatV (meshVertices o rs)) (l .vertices) (omega arith));
+          sources = rw (← ls) (take-over (flatS (meshVertices o rs)) (l .sources) (omega (arith, ls)));
           triangles = rw (← lt) (take-over (flatT (meshTriangles o 0 rs)) (l .triangles) (omega arith));
           vertices-behind = rw (← lv) (drop-over (flatV (meshVertices o rs)) (l .vertices));
+          sources-behind = rw (← ls) (drop-over (flatS (meshVertices o rs)) (l .sources));
           triangles-behind = rw (← lt) (drop-over (flatT (meshTriangles o 0 rs)) (l .triangles));
         }
 
   rooms-decide : Roomed o rs l (acceptedOf l o rs)
-  rooms-decide = record { few-vertices = no-vertices; few-triangles = no-triangles; enough = λ h g. rw (is-whole h g) (all-written h g) }
+  rooms-decide = record {
+    few-vertices = λ h. no-vertices (omega (arith, either .0));
+    few-sources = λ h. no-vertices (omega (arith, either .1));
+    few-triangles = λ h f g. no-triangles (places h f) g;
+    enough = λ h f g. rw (is-whole h f g) (all-written h f g);
+  }
 
 -- ---- the whole call
 pub demand-3 : (verbs : List ℕ) (coords : List Float) (options : Options) (o : Stroke) → EarnsNone verbs coords options o → (l : Lists) → Demand3 verbs coords options o l

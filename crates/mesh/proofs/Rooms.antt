@@ -7,14 +7,14 @@ use native.Mathlib.Omega.{arith}
 use lib.Dec.{ltb, eqb}
 use lib.Ieee.{Float}
 use lib.ListN.{length, take, drop, length-append, length-take, length-drop}
-use borrow.Author.Tests.{le-ltb, ltb-false}
+use borrow.Author.Tests.{le-ltb, ltb-true, ltb-false}
 use Rattle.refusals.specs.Numbers.{numberOf, verdictOf, accepted, vertexRoom, triangleRoom}
 use Rattle.refusals.specs.declared.Refusal.{Refusal}
 use Rattle.refusals.specs.declared.Refusal.the-variants.{OutOfRange, TooManyVerbs, Verb, Coordinate}
 use Rattle.plane.specs.Normal.{pick}
 use Rattle.endpoint.specs.declared.Endpoint.{Endpoint}
 use Rattle.lists.specs.Over.{over}
-use Rattle.pieces.specs.Piece.{flatV, flatT, behind, Lists, lent, Fits, Passes}
+use Rattle.pieces.specs.Piece.{flatV, flatS, flatT, behind, Lists, lent, Fits, Passes}
 use Rattle.pieces.specs.declared.Place.{Place}
 use Rattle.pieces.proofs.Pieces.{laid-start}
 use Rattle.path.specs.Limits.{countLimit}
@@ -29,8 +29,8 @@ use Rattle.runs.specs.Cursor.{undrawn}
 use Rattle.runs.specs.Passes.{Paired}
 use Rattle.runs.specs.Runs.{runsOf, meshVertices, meshCount, meshTriangles, meshPiece, meshCounts}
 use Rattle.runs.proofs.Runs.{length-vertices, Bounded, runs-bounded}
-use Rattle.mesh.specs.Answer.{withCounts, meshAnswerOf, isMesh, roomedOf, Plenty}
-use Rattle.mesh.specs.Mesh.{Outcome, refused, roomFor, acceptedOf, onceAccepted}
+use Rattle.mesh.specs.Answer.{withCounts, meshAnswerOf, isMesh, smallerOf, roomedOf, Plenty}
+use Rattle.mesh.specs.Mesh.{Outcome, refused, vertexPlaces, roomFor, acceptedOf, onceAccepted}
 use Rattle.mesh.specs.Parts.{Counted}
 use Rattle.mesh.specs.declared.answer.MeshAnswer.{MeshAnswer}
 use Rattle.mesh.specs.declared.answer.Meshed.the-variants.{Mesh, Refused}
@@ -50,6 +50,21 @@ runs-points n (v ∷ vs) ps = go (names v) (runs-points (n + 1) vs ps) (runs-poi
     go false a b =
         let d : length (pointsOf (runsFrom 0 vs (drop n ps))) ≤ length ps - n = simp length-drop at b in
         simp (length-append, length-take) (omega arith)
+
+-- the smaller room is no larger than either, and what fits both fits it
+pub smaller-both : (a b : ℕ) → (smallerOf a b ≤ a) × (smallerOf a b ≤ b)
+smaller-both a b = go (ltb b a) refl
+  where
+    go : (t : Bool) → ltb b a ≡ t → (cond t b a ≤ a) × (cond t b a ≤ b)
+    go true e = (omega (arith, ltb-true b a e), omega arith)
+    go false e = (omega arith, ltb-false b a e)
+
+pub smaller-least : (n a b : ℕ) → n ≤ a → n ≤ b → n ≤ smallerOf a b
+smaller-least n a b h g = go (ltb b a)
+  where
+    go : (t : Bool) → n ≤ cond t b a
+    go true = g
+    go false = h
 
 -- "the counts' bounds", to a verb: so many vertices and no more triangles
 module _ (o : Stroke) (vs : List ℕ) (cs : List Float) (s : Sound vs cs) where
@@ -73,21 +88,23 @@ module _ (o : Stroke) (vs : List ℕ) (cs : List Float) (s : Sound vs cs) where
   counts-fit l =
       let b = counts-limited in
       let n = length-vertices o (runsOf vs cs) in
-      record { numbers = omega (arith, b .0); faces = omega (arith, b .1); vertices = λ w. absurd (false≢true w); triangles = λ w. absurd (false≢true w) }
+      record { numbers = omega (arith, b .0); faces = omega (arith, b .1); vertices = λ w. absurd (false≢true w); sources = λ w. absurd (false≢true w); triangles = λ w. absurd (false≢true w) }
 
-  room-fits : (l : Lists) → meshCount o (runsOf vs cs) ≤ length (l .vertices) / 5 → length (meshTriangles o 0 (runsOf vs cs)) ≤ length (l .triangles) / 3
+  room-fits : (l : Lists) → meshCount o (runsOf vs cs) ≤ vertexPlaces l → length (meshTriangles o 0 (runsOf vs cs)) ≤ length (l .triangles) / 3
       → Fits true undrawn (meshPiece o undrawn (runsOf vs cs)) l
   room-fits l a b =
       let h = counts-fit l in
       let n = length-vertices o (runsOf vs cs) in
-      record { numbers = h .numbers; faces = h .faces; vertices = λ w. omega arith; triangles = λ w. omega arith }
+      let p = smaller-both (length (l .vertices) / 5) (length (l .sources)) in
+      record { numbers = h .numbers; faces = h .faces; vertices = λ w. omega (arith, p .0); sources = λ w. omega (arith, p .1); triangles = λ w. omega arith }
 
 -- what stands behind the last run, and the lists then
 module _ (o : Stroke) (rs : List (Run Endpoint)) where
   counts-are : (k : Place) → k ≡ behind undrawn (meshPiece o undrawn rs) → (k .vertices ≡ meshCount o rs) × (k .triangles ≡ length (meshTriangles o 0 rs))
   counts-are k e = rw e (omega (arith, length-vertices o rs), omega arith)
 
-  drawn-is : {l l' : Lists} {k : Place} → Passes true undrawn (meshPiece o undrawn rs) l l' k → l' ≡ lent (over (flatV (meshVertices o rs)) (l .vertices)) (over (flatT (meshTriangles o 0 rs)) (l .triangles))
+  drawn-is : {l l' : Lists} {k : Place} → Passes true undrawn (meshPiece o undrawn rs) l l' k → l'
+      ≡ lent (over (flatV (meshVertices o rs)) (l .vertices)) (over (flatS (meshVertices o rs)) (l .sources)) (over (flatT (meshTriangles o 0 rs)) (l .triangles))
   drawn-is {l} e = e .lists refl ∙ laid-start (undrawn .base) (meshPiece o undrawn rs) l
 
 -- it is a mesh only where there is room for both
@@ -105,8 +122,8 @@ module _ (o : Stroke) (vs : List ℕ) (cs : List Float) (s : Sound vs cs) (l : L
   outcome = acceptedOf l o (runsOf vs cs)
 
   -- ---- with plenty of room
-  module _ (q : Plenty (record { vertices = length (l .vertices) / 5; triangles = length (l .triangles) / 3 }) (length cs)) where
-    v-room : meshCount o (runsOf vs cs) ≤ length (l .vertices) / 5
+  module _ (q : Plenty (record { vertices = vertexPlaces l; triangles = length (l .triangles) / 3 }) (length cs)) where
+    v-room : meshCount o (runsOf vs cs) ≤ vertexPlaces l
     v-room = omega (arith, q .vertices, few-vertices o vs cs s)
 
     t-room : length (meshTriangles o 0 (runsOf vs cs)) ≤ length (l .triangles) / 3
@@ -123,7 +140,7 @@ module _ (o : Stroke) (vs : List ℕ) (cs : List Float) (s : Sound vs cs) (l : L
         rw (c .0, c .1, le-ltb _ _ v-room, le-ltb _ _ t-room, drawn-is o (runsOf vs cs) e)
 
   -- ---- counted first: c is what it needs, and a the answer
-  module _ {c : Place} {l1 : Lists} (k : Counted o (runsOf vs cs) l l1 c) (a : MeshAnswer) (j : a ≡ roomedOf (c .vertices) (c .triangles) (length (l .vertices) / 5) (length (l .triangles) / 3)) where
+  module _ {c : Place} {l1 : Lists} (k : Counted o (runsOf vs cs) l l1 c) (a : MeshAnswer) (j : a ≡ roomedOf (c .vertices) (c .triangles) (vertexPlaces l) (length (l .triangles) / 3)) where
     count : (c .vertices ≡ meshCount o (runsOf vs cs)) × (c .triangles ≡ length (meshTriangles o 0 (runsOf vs cs)))
     count = counts-are o (runsOf vs cs) c (k .place)
 
@@ -132,7 +149,7 @@ module _ (o : Stroke) (vs : List ℕ) (cs : List Float) (s : Sound vs cs) (l : L
 
     pub mesh-fits : isMesh a ≡ true → Fits true undrawn (meshPiece o undrawn (runsOf vs cs)) l1
     mesh-fits e =
-        let r = roomed-room (c .vertices) (c .triangles) (length (l .vertices) / 5) (length (l .triangles) / 3) (ap isMesh (sym j) ∙ e) in
+        let r = roomed-room (c .vertices) (c .triangles) (vertexPlaces l) (length (l .triangles) / 3) (ap isMesh (sym j) ∙ e) in
         rw (k .lists) (room-fits o vs cs s l (omega (arith, r .0, count .0)) (omega (arith, r .1, count .1)))
 
     pub is-drawn : isMesh a ≡ true → {l2 : Lists} {d : Place} → Passes true undrawn (meshPiece o undrawn (runsOf vs cs)) l1 l2 d → record { answer = a; lists = l2 } ≡ outcome
@@ -148,9 +165,9 @@ none-back : {A : Type 0} (xs ys : List A) → length ys ≡ 0 → ys ++ xs ≡ x
 none-back xs [] e = refl
 none-back xs (y ∷ ys) e = absurd (omega (arith, e))
 
-pub counted : (o : Stroke) (rs : List (Run Endpoint)) (v v2 : List Float) (t t2 : List ℕ) {l1 : Lists} {k : Place} → length v2 ≡ 0 → length t2 ≡ 0
-    → Passes false undrawn (meshPiece o undrawn rs) l1 (lent v2 t2) k → Counted o rs (lent v t) (lent (v2 ++ v) (t2 ++ t)) k
-counted o rs v v2 t t2 lv lt e = record { place = e .place; lists = rw (none-back v v2 lv, none-back t t2 lt) }
+pub counted : (o : Stroke) (rs : List (Run Endpoint)) (v v2 : List Float) (s s2 t t2 : List ℕ) {l1 : Lists} {k : Place} → length v2 ≡ 0 → length s2 ≡ 0 → length t2 ≡ 0
+    → Passes false undrawn (meshPiece o undrawn rs) l1 (lent v2 s2 t2) k → Counted o rs (lent v s t) (lent (v2 ++ v) (s2 ++ s) (t2 ++ t)) k
+counted o rs v v2 s s2 t t2 lv ls lt e = record { place = e .place; lists = rw (none-back v v2 lv, none-back s s2 ls, none-back t t2 lt) }
 
 -- ---- refusals 1 to 4, whatever would come then
 pub refused-first : (l : Lists) (r : Refusal) (next : Outcome) → refused l (meshAnswerOf (Refused r)) ≡ onceAccepted l (verdictOf r .number) (verdictOf r .place) next

@@ -26,6 +26,10 @@ meshAnswerOf (TriangleRoom n m) = withCounts (numberOf triangleRoom) n m
 abbrev pub isMesh : MeshAnswer → Bool
 isMesh a = eqb (a .number) (numberOf accepted)
 
+-- of two rooms the smaller
+abbrev pub smallerOf : ℕ → ℕ → ℕ
+smallerOf a b = cond (ltb b a) b a
+
 -- Refusals 6 and 7, in their order, of n vertices and m triangles: "too few vertex places", "too few triangle places"
 abbrev pub roomedOf : ℕ → ℕ → ℕ → ℕ → MeshAnswer
 roomedOf n m vertexPlaces trianglePlaces =

@@ -16,7 +16,7 @@ use Rattle.options.specs.declared.Stroke.{Stroke}
 use Rattle.kept.specs.Points.{endpointsOf}
 use Rattle.joints.specs.Joint.{jointsOf}
 use Rattle.kept.specs.Kept.{keptPoints}
-use Rattle.pieces.specs.Piece.{Lists, flatV, flatT}
+use Rattle.pieces.specs.Piece.{Lists, flatV, flatS, flatT}
 use Rattle.strip.specs.Joint.{pairSides}
 use Rattle.run.specs.Facts.{RunCounts, Covers}
 use Rattle.run.specs.Run.{drawsCap, shapeCount, shapeTriangles}
@@ -47,16 +47,20 @@ AllStand o base (r ∷ rs) = RunStands o base r × AllStand o (base + shapeCount
 pub record Written (o : Stroke) (rs : List (Run Endpoint)) (l : Lists) (out : Outcome) : Type 0 where
   pub answer : out .answer ≡ withCounts (numberOf accepted) (meshCount o rs) (length (meshTriangles o 0 rs))
   pub vertices : take (5 * meshCount o rs) (out .lists .vertices) ≡ flatV (meshVertices o rs)
+  pub sources : take (meshCount o rs) (out .lists .sources) ≡ flatS (meshVertices o rs)
   pub triangles : take (3 * length (meshTriangles o 0 rs)) (out .lists .triangles) ≡ flatT (meshTriangles o 0 rs)
   pub vertices-behind : drop (5 * meshCount o rs) (out .lists .vertices) ≡ drop (5 * meshCount o rs) (l .vertices)
+  pub sources-behind : drop (meshCount o rs) (out .lists .sources) ≡ drop (meshCount o rs) (l .sources)
   pub triangles-behind : drop (3 * length (meshTriangles o 0 rs)) (out .lists .triangles) ≡ drop (3 * length (meshTriangles o 0 rs)) (l .triangles)
 
--- "refused for want of room exactly when a list is too short for the numbers, and the refusal states both; otherwise exactly so many are written"
+-- "refused for want of room exactly when a list is too short for the numbers, and the refusal states both; otherwise exactly so many are written"; W-206: "6 also
+-- when the new list is too short"
 pub record Roomed (o : Stroke) (rs : List (Run Endpoint)) (l : Lists) (out : Outcome) : Type 0 where
   pub few-vertices : length (l .vertices) < 5 * meshCount o rs → out ≡ refused l (withCounts (numberOf vertexRoom) (meshCount o rs) (length (meshTriangles o 0 rs)))
-  pub few-triangles : 5 * meshCount o rs ≤ length (l .vertices) → length (l .triangles) < 3 * length (meshTriangles o 0 rs)
+  pub few-sources : length (l .sources) < meshCount o rs → out ≡ refused l (withCounts (numberOf vertexRoom) (meshCount o rs) (length (meshTriangles o 0 rs)))
+  pub few-triangles : 5 * meshCount o rs ≤ length (l .vertices) → meshCount o rs ≤ length (l .sources) → length (l .triangles) < 3 * length (meshTriangles o 0 rs)
       → out ≡ refused l (withCounts (numberOf triangleRoom) (meshCount o rs) (length (meshTriangles o 0 rs)))
-  pub enough : 5 * meshCount o rs ≤ length (l .vertices) → 3 * length (meshTriangles o 0 rs) ≤ length (l .triangles) → Written o rs l out
+  pub enough : 5 * meshCount o rs ≤ length (l .vertices) → meshCount o rs ≤ length (l .sources) → 3 * length (meshTriangles o 0 rs) ≤ length (l .triangles) → Written o rs l out
 
 pub record Demand3 (verbs : List ℕ) (coords : List Float) (options : Options) (o : Stroke) (l : Lists) : Type 0 where
   -- the runs are the whole path, in order

@@ -1,4 +1,4 @@
--- The mesh call: its answer in document 01's numbers, and both lists whole, for every path, every option and all lists. Assumes nothing.
+-- The mesh call: its answer in document 01's numbers, and all lists whole, for every path, every option and all lists. Assumes nothing.
 use Prim.Native.Nat.{ℕ, _/_}
 use mathlib.Core.Bool.{cond}
 use mathlib.Core.List.{List}
@@ -13,9 +13,9 @@ use Rattle.path.specs.Path.{checkedOf}
 use Rattle.path.specs.Runs.{Run}
 use Rattle.options.specs.declared.Options.{Options}
 use Rattle.options.specs.declared.Stroke.{Stroke}
-use Rattle.pieces.specs.Piece.{Lists, lent, flatV, flatT}
+use Rattle.pieces.specs.Piece.{Lists, lent, flatV, flatS, flatT}
 use Rattle.runs.specs.Runs.{runsOf, meshVertices, meshCount, meshTriangles}
-use Rattle.mesh.specs.Answer.{meshAnswerOf, withPlace, isMesh, roomedOf}
+use Rattle.mesh.specs.Answer.{meshAnswerOf, withPlace, isMesh, smallerOf, roomedOf}
 use Rattle.mesh.specs.declared.answer.Meshed.{Meshed}
 use Rattle.mesh.specs.declared.answer.MeshAnswer.{MeshAnswer}
 
@@ -25,8 +25,8 @@ pub record Outcome : Type 0 where
   pub lists : Lists
 
 -- what a call left that answered so
-abbrev pub answered : Meshed → List Float → List ℕ → Outcome
-answered r v t = record { answer = meshAnswerOf r; lists = lent v t }
+abbrev pub answered : Meshed → List Float → List ℕ → List ℕ → Outcome
+answered r v s t = record { answer = meshAnswerOf r; lists = lent v s t }
 
 -- the lists that are lent
 module _ (l : Lists) where
@@ -34,13 +34,19 @@ module _ (l : Lists) where
   abbrev pub refused : MeshAnswer → Outcome
   refused answer = record { answer = answer; lists = l }
 
-  -- "Room is the list's length over 5 or 3, rounded down."
+  -- "Room is the list's length over 5 or 3, rounded down.", and W-206: "vertex room is now the smaller of the two lists' rooms"
+  abbrev pub vertexPlaces : ℕ
+  vertexPlaces = smallerOf (length (l .vertices) / 5) (length (l .sources))
+
   abbrev pub roomFor : Stroke → List (Run Endpoint) → MeshAnswer
-  roomFor o rs = roomedOf (meshCount o rs) (length (meshTriangles o 0 rs)) (length (l .vertices) / 5) (length (l .triangles) / 3)
+  roomFor o rs = roomedOf (meshCount o rs) (length (meshTriangles o 0 rs)) vertexPlaces (length (l .triangles) / 3)
 
   -- "After 0, list places beyond those counted keep their contents."
   abbrev pub drawn : Stroke → List (Run Endpoint) → Outcome
-  drawn o rs = record { answer = roomFor o rs; lists = lent (over (flatV (meshVertices o rs)) (l .vertices)) (over (flatT (meshTriangles o 0 rs)) (l .triangles)) }
+  drawn o rs = record {
+    answer = roomFor o rs;
+    lists = lent (over (flatV (meshVertices o rs)) (l .vertices)) (over (flatS (meshVertices o rs)) (l .sources)) (over (flatT (meshTriangles o 0 rs)) (l .triangles));
+  }
 
   -- of an accepted path
   unfoldable pub acceptedOf : Stroke → List (Run Endpoint) → Outcome

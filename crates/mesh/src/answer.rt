@@ -7,7 +7,7 @@ use refusals::VERTEX_ROOM;
 use refusals::verdict_of;
 ghost use mathlib.Core.Bool.{true};
 ghost use mathlib.Core.Path.{_≡_};
-ghost use Rattle.mesh.specs.Answer.{meshAnswerOf, withCounts, withPlace, isMesh, roomedOf, Plenty};
+ghost use Rattle.mesh.specs.Answer.{meshAnswerOf, withCounts, withPlace, isMesh, smallerOf, roomedOf, Plenty};
 
 // A mesh, or the first refusal by number. A mesh and the refusals for want of room have both counts: vertices, then triangles.
 pub enum Meshed {
@@ -32,6 +32,16 @@ pub struct MeshAnswer {
 pub struct Rooms {
     pub vertices: usize,
     pub triangles: usize,
+}
+
+// Of two rooms the smaller.
+pub fn smaller(a: usize, b: usize) -> usize
+    ensures { λ r. ⌜ r ≡ smallerOf a b ⌝ }
+{
+    if b < a {
+        return b;
+    }
+    a
 }
 
 // Whether there is room for the most that so many coordinates can need: four vertices and four triangles to a point.

@@ -6,6 +6,7 @@ use crate::answer::Rooms;
 use crate::answer::fits;
 use crate::answer::is_plenty;
 use crate::answer::judged;
+use crate::answer::smaller;
 use along::Pass;
 use options::Options;
 use options::Stroke;
@@ -29,10 +30,11 @@ fn count_accepted(
     coords: &[f32],
     stroke: Stroke,
     vertices: &mut [f32],
+    sources: &mut [u32],
     triangles: &mut [Index],
 ) -> Place
     requires { ⌜ Sound (now verbs) (now coords) ⌝ }
-    ensures { λ r. ⌜ Counted stroke (runsOf (now (verbs .entry)) (now (coords .entry))) (lent (now (vertices .entry)) (now (triangles .entry))) (lent (now (vertices .exit)) (now (triangles .exit))) r ⌝ }
+    ensures { λ r. ⌜ Counted stroke (runsOf (now (verbs .entry)) (now (coords .entry))) (lent (now (vertices .entry)) (now (sources .entry)) (now (triangles .entry))) (lent (now (vertices .exit)) (now (sources .exit)) (now (triangles .exit))) r ⌝ }
 {
     let count = Pass {
         stroke,
@@ -40,6 +42,7 @@ fn count_accepted(
     };
     draw_runs(
         &mut vertices[..0],
+        &mut sources[..0],
         &mut triangles[..0],
         count,
         verbs,
@@ -53,13 +56,14 @@ fn mesh_accepted(
     coords: &[f32],
     stroke: Stroke,
     vertices: &mut [f32],
+    sources: &mut [u32],
     triangles: &mut [Index],
 ) -> Meshed
     requires { ⌜ Sound (now verbs) (now coords) ⌝ }
-    ensures { λ r. ⌜ answered r (now (vertices .exit)) (now (triangles .exit)) ≡ acceptedOf (lent (now (vertices .entry)) (now (triangles .entry))) stroke (runsOf (now (verbs .entry)) (now (coords .entry))) ⌝ }
+    ensures { λ r. ⌜ answered r (now (vertices .exit)) (now (sources .exit)) (now (triangles .exit)) ≡ acceptedOf (lent (now (vertices .entry)) (now (sources .entry)) (now (triangles .entry))) stroke (runsOf (now (verbs .entry)) (now (coords .entry))) ⌝ }
 {
     let rooms = Rooms {
-        vertices: vertices.len() / 5,
+        vertices: smaller(vertices.len() / 5, sources.len()),
         triangles: triangles.len() / 3,
     };
     let draw = Pass {
@@ -67,13 +71,13 @@ fn mesh_accepted(
         write: true,
     };
     if is_plenty(rooms, coords.len()) {
-        let d = draw_runs(vertices, triangles, draw, verbs, coords);
+        let d = draw_runs(vertices, sources, triangles, draw, verbs, coords);
         return Meshed::Mesh(d.vertices, d.triangles);
     }
-    let c = count_accepted(verbs, coords, stroke, vertices, triangles);
+    let c = count_accepted(verbs, coords, stroke, vertices, sources, triangles);
     let answer = judged(c, rooms);
     if fits(answer) {
-        draw_runs(vertices, triangles, draw, verbs, coords);
+        draw_runs(vertices, sources, triangles, draw, verbs, coords);
     }
     answer
 }
@@ -83,29 +87,38 @@ fn mesh_stroked(
     coords: &[f32],
     stroke: Stroke,
     vertices: &mut [f32],
+    sources: &mut [u32],
     triangles: &mut [Index],
 ) -> Meshed
-    ensures { λ r. ⌜ answered r (now (vertices .exit)) (now (triangles .exit)) ≡ strokedOf (lent (now (vertices .entry)) (now (triangles .entry))) (now (verbs .entry)) (now (coords .entry)) stroke ⌝ }
+    ensures { λ r. ⌜ answered r (now (vertices .exit)) (now (sources .exit)) (now (triangles .exit)) ≡ strokedOf (lent (now (vertices .entry)) (now (sources .entry)) (now (triangles .entry))) (now (verbs .entry)) (now (coords .entry)) stroke ⌝ }
 {
     match check_path(verbs, coords) {
-        Checked::Accepted => mesh_accepted(verbs, coords, stroke, vertices, triangles),
+        Checked::Accepted => mesh_accepted(verbs, coords, stroke, vertices, sources, triangles),
         Checked::Refused(r) => Meshed::Refused(r),
     }
 }
 
-// Strokes a path. The vertices go to the start of one list, five floats each; the triangles to the start of the other, three
-// vertex numbers each. A refusal changes neither.
+// Strokes a path. The vertices go to the start of one list, five floats each, and where each came from to the start of the next;
+// the triangles to the start of the last, three vertex numbers each. A refusal changes none.
 pub fn tessellate(
     verbs: &[u8],
     coords: &[f32],
     options: Options,
     vertices: &mut [f32],
+    sources: &mut [u32],
     triangles: &mut [Index],
 ) -> Meshed
-    ensures { λ r. ⌜ answered r (now (vertices .exit)) (now (triangles .exit)) ≡ outcomeOf (now (verbs .entry)) (now (coords .entry)) options (lent (now (vertices .entry)) (now (triangles .entry))) ⌝ }
+    ensures { λ r. ⌜ answered r (now (vertices .exit)) (now (sources .exit)) (now (triangles .exit)) ≡ outcomeOf (now (verbs .entry)) (now (coords .entry)) options (lent (now (vertices .entry)) (now (sources .entry)) (now (triangles .entry))) ⌝ }
 {
     match stroke_of(options) {
-        Stroked::Stroke(stroke) => mesh_stroked(verbs, coords, stroke, vertices, triangles),
+        Stroked::Stroke(stroke) => mesh_stroked(
+            verbs,
+            coords,
+            stroke,
+            vertices,
+            sources,
+            triangles,
+        ),
         Stroked::Refused(r) => Meshed::Refused(r),
     }
 }

@@ -20,7 +20,7 @@ use Rattle.triangles.specs.Facts.{AllOwn}
 use Rattle.triangles.specs.Tri.{Tri}
 use Rattle.runs.specs.Runs.{runsOf, meshCount, meshTriangles}
 use Rattle.mesh.specs.Answer.{isMesh, withCounts, withPlace}
-use Rattle.mesh.specs.Mesh.{Outcome, refused, drawn, roomFor, acceptedOf, onceAccepted, strokedOf, outcomeOf}
+use Rattle.mesh.specs.Mesh.{Outcome, refused, drawn, roomFor, acceptedOf, onceAccepted, strokedOf, outcomeOf, vertexPlaces}
 use Rattle.mesh.proofs.Numbers.{all-own}
 
 -- each number is below k
@@ -54,7 +54,7 @@ module _ (k : ℕ) (l : Lists) (zeros : AllBelow k (l .triangles)) where
   Named o = o .answer .vertices ≤ k → AllBelow k (o .lists .triangles)
 
   mesh-counts : (o : Stroke) (rs : List (Run Endpoint)) → isMesh (roomFor l o rs) ≡ true → roomFor l o rs .vertices ≡ meshCount o rs
-  mesh-counts o rs = by (length (meshTriangles o 0 rs)) (ltb (length (l .vertices) / 5) (meshCount o rs)) (ltb (length (l .triangles) / 3) (length (meshTriangles o 0 rs)))
+  mesh-counts o rs = by (length (meshTriangles o 0 rs)) (ltb (vertexPlaces l) (meshCount o rs)) (ltb (length (l .triangles) / 3) (length (meshTriangles o 0 rs)))
     where
       by : (m : ℕ) (few fewer : Bool) → let a = cond few (withCounts 6 (meshCount o rs) m) (cond fewer (withCounts 7 (meshCount o rs) m) (withCounts 0 (meshCount o rs) m)) in
           isMesh a ≡ true → a .vertices ≡ meshCount o rs

@@ -20,21 +20,21 @@ use Rattle.reader.specs.Outcome as reader
 use Rattle.reader.specs.Reads.{Reads, too-long, out-of-form, too-large, no-room, path, verbsIn, coordsIn}
 use Rattle.pieces.specs.Piece.{Lists}
 use Rattle.mesh.specs.Answer.{isMesh, withCounts, withPlace}
-use Rattle.mesh.specs.Mesh.{Outcome, refused, drawn, roomFor, acceptedOf, onceAccepted, strokedOf, outcomeOf}
+use Rattle.mesh.specs.Mesh.{Outcome, refused, vertexPlaces, drawn, roomFor, acceptedOf, onceAccepted, strokedOf, outcomeOf}
 use Rattle.mesh.specs.declared.answer.MeshAnswer.{MeshAnswer}
 
 -- ---- the mesh call
 module _ (l : Lists) where
   abbrev pub Roomy : MeshAnswer → Type 0
-  Roomy a = a .number ≡ 0 → (a .vertices ≤ length (l .vertices) / 5) × (a .triangles ≤ length (l .triangles) / 3)
+  Roomy a = a .number ≡ 0 → (a .vertices ≤ vertexPlaces l) × (a .triangles ≤ length (l .triangles) / 3)
 
   room-roomy : (o : Stroke) (rs : List (Run Endpoint)) → Roomy (roomFor l o rs)
   room-roomy o rs =
       let n = meshCount o rs in
       let m = length (meshTriangles o 0 rs) in
-      by n m (ltb (length (l .vertices) / 5) n) (ltb (length (l .triangles) / 3) m) (ltb-false _ _) (ltb-false _ _)
+      by n m (ltb (vertexPlaces l) n) (ltb (length (l .triangles) / 3) m) (ltb-false _ _) (ltb-false _ _)
     where
-      by : (n m : ℕ) (few fewer : Bool) → (few ≡ false → n ≤ length (l .vertices) / 5) → (fewer ≡ false → m ≤ length (l .triangles) / 3)
+      by : (n m : ℕ) (few fewer : Bool) → (few ≡ false → n ≤ vertexPlaces l) → (fewer ≡ false → m ≤ length (l .triangles) / 3)
           → Roomy (cond few (withCounts 6 n m) (cond fewer (withCounts 7 n m) (withCounts 0 n m)))
       by n m true fewer h g e = absurd (omega arith)
       by n m false true h g e = absurd (omega arith)

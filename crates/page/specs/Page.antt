@@ -26,7 +26,7 @@ optionsOf = record { width = ofBits binary32 0x40000000; «miter_limit» = ofBit
 abbrev pub textRoom : ℕ
 textRoom = 16384
 
--- "room for 1,024 verbs, 2,048 coordinates, 1,024 vertices and 1,536 triangles": five floats to a vertex, three numbers to a triangle, all zero
+-- "room for 1,024 verbs, 2,048 coordinates, 1,024 vertices and 1,536 triangles": five floats and a record to a vertex, three numbers to a triangle, all zero
 abbrev pub verbRoom : List ℕ
 verbRoom = replicate 1024 0
 
@@ -35,6 +35,9 @@ coordRoom = replicate 2048 (ofBits binary32 0)
 
 abbrev pub vertexRoom : List Float
 vertexRoom = replicate (5 * 1024) (ofBits binary32 0)
+
+abbrev pub sourceRoom : List ℕ
+sourceRoom = replicate 1024 0
 
 abbrev pub triangleRoom : List ℕ
 triangleRoom = replicate (3 * 1536) 0
@@ -85,7 +88,7 @@ meshPageOf o =
 unfoldable pub readPageOf : reader.Outcome → List ℕ
 readPageOf o =
     let a = o .answer in
-    cond (eqb (a .number) (numberOf accepted)) (meshPageOf (mesh.outcomeOf (take (a .verbs) (o .verbs)) (take (a .coords) (o .coords)) optionsOf (lent vertexRoom triangleRoom)))
+    cond (eqb (a .number) (numberOf accepted)) (meshPageOf (mesh.outcomeOf (take (a .verbs) (o .verbs)) (take (a .coords) (o .coords)) optionsOf (lent vertexRoom sourceRoom triangleRoom)))
     (refusedPage (a .number) (a .place))
 
 -- The page of the bytes s. The reader allows one outcome, so there is one page: `one-page` of proofs/Unique.antt.

@@ -15,7 +15,7 @@ ghost use Prim.Native.Nat.{_≤_};
 ghost use Rattle.lines.specs.Placed.{Puts};
 ghost use Rattle.pieces.specs.Piece.{lent};
 ghost use Rattle.mesh.specs.Mesh as mesh;
-ghost use Rattle.page.specs.Page.{optionsOf, vertexRoom, triangleRoom, meshPageOf, PutsPage};
+ghost use Rattle.page.specs.Page.{optionsOf, vertexRoom, sourceRoom, triangleRoom, meshPageOf, PutsPage};
 
 // Room for any page: two lines that count, and 18 bytes at most to each of 1,024 vertices and 1,536 triangles.
 pub const PAGE_ROOM: usize = 65536;
@@ -31,6 +31,9 @@ const COORD_ROOM: usize = 2048;
 
 // Five floats to each of 1,024 vertices.
 const VERTEX_ROOM: usize = 5120;
+
+// A record of each.
+const SOURCE_ROOM: usize = 1024;
 
 // Three numbers to each of 1,536 triangles.
 const TRIANGLE_ROOM: usize = 4608;
@@ -56,12 +59,20 @@ pub fn put_page(text: &[u8], out: &mut Page) -> usize
 
 // The page of a path.
 fn put_stroked(verbs: &[u8], coords: &[f32], out: &mut Page) -> usize
-    ensures { λ r. ⌜ Puts (meshPageOf (mesh.outcomeOf (now (verbs .entry)) (now (coords .entry)) optionsOf (lent vertexRoom triangleRoom))) 0 (now (out .entry)) r (now (out .exit)) ⌝ }
+    ensures { λ r. ⌜ Puts (meshPageOf (mesh.outcomeOf (now (verbs .entry)) (now (coords .entry)) optionsOf (lent vertexRoom sourceRoom triangleRoom))) 0 (now (out .entry)) r (now (out .exit)) ⌝ }
     ensures { λ r. ⌜ r ≤ 65536 ⌝ }
 {
     let mut vertices = [0.0f32; VERTEX_ROOM];
+    let mut sources = [0u32; SOURCE_ROOM];
     let mut triangles = [0u32; TRIANGLE_ROOM];
-    let a = mesh_answer_of(tessellate(verbs, coords, options(), &mut vertices, &mut triangles));
+    let a = mesh_answer_of(tessellate(
+        verbs,
+        coords,
+        options(),
+        &mut vertices,
+        &mut sources,
+        &mut triangles,
+    ));
     if a.number != 0 {
         return put_refused(out, a.number, a.place);
     }

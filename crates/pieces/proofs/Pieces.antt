@@ -3,7 +3,8 @@
 use Prim.Native.Nat.{ℕ, _+_, _-_, _*_, _≤_}
 use mathlib.Core.Path.{_≡_, refl, sym, ap, _∙_}
 use mathlib.Core.Bool.{Bool, true, false, cond, true≢false}
-use mathlib.Core.List.{List, [], append-nil}
+use mathlib.Core.List.{List, [], _++_, append-nil}
+use mathlib.Core.Logic.{_≢_}
 use native.Mathlib.Omega.{arith}
 use borrow.Rule.Slice.PartMut.{midOf, putMid}
 use lib.Ieee.{Float}
@@ -11,13 +12,16 @@ use lib.ListN.{length, length-append, length-drop}
 use Rattle.endpoint.specs.declared.VertexId.{VertexId}
 use Rattle.lists.specs.Over.{over, putAt, flat}
 use Rattle.triangles.specs.Tri.{Tri, numbersOf}
-use Rattle.pieces.specs.Piece.{Vertex, floatsOf, flatV, flatT, Piece, none, joined, behind, anew, Lists, lent, laid, Fits, Passes}
+use Rattle.pieces.specs.Piece.{Vertex, floatsOf, sourcesOf, flatV, flatS, flatT, Piece, none, joined, behind, anew, Lists, lent, laid, Fits, Passes}
 use Rattle.pieces.specs.declared.Place.{Place}
 use Rattle.lists.proofs.Parts.{part-is, put-part}
 use Rattle.lists.proofs.Laws.{put-start, put-none, length-put, length-flat, put-flat}
 
 pub length-flatV : (vs : List Vertex) → length (flatV vs) ≡ 5 * length vs
 length-flatV = length-flat floatsOf 5 (λ v. refl)
+
+pub length-flatS : (vs : List Vertex) → length (flatS vs) ≡ length vs
+length-flatS vs = omega (arith, length-flat sourcesOf 1 (λ v. refl) vs)
 
 pub length-flatT : (ts : List Tri) → length (flatT ts) ≡ 3 * length ts
 length-flatT = length-flat numbersOf 3 (λ t. refl)
@@ -38,26 +42,37 @@ behind-joined k p q =
 -- ---- lists
 pub laid-none : (k : Place) (l : Lists) → laid k none l ≡ l
 unfolding flat
-laid-none k l = rw (put-none (5 * k .vertices) (l .vertices), put-none (3 * k .triangles) (l .triangles))
+laid-none k l = rw (put-none (5 * k .vertices) (l .vertices), put-none (k .vertices) (l .sources), put-none (3 * k .triangles) (l .triangles))
+
+put-sources : (k : ℕ) (vs ws : List Vertex) (xs : List ℕ) → putAt (k + length vs) (flatS ws) (putAt k (flatS vs) xs) ≡ putAt k (flatS (vs ++ ws)) xs
+put-sources k vs ws xs =
+    let a : 1 * k ≡ k = omega arith in
+    let b : 1 * (k + length vs) ≡ k + length vs = omega arith in
+    rw (b, a) at (put-flat sourcesOf 1 (λ v. refl) k vs ws xs)
 
 laid-joined : (k : Place) (p q : Piece) (l : Lists) → laid (behind k p) q (laid k p l) ≡ laid k (joined p q) l
-laid-joined k p q l = rw (put-flat floatsOf 5 (λ v. refl) (k .vertices) (p .vertices) (q .vertices) (l .vertices), put-flat numbersOf 3 (λ t. refl) (k .triangles) (p .triangles) (q .triangles) (l .triangles))
+laid-joined k p q l = rw (put-flat floatsOf 5 (λ v. refl) (k .vertices) (p .vertices) (q .vertices) (l .vertices), put-sources (k .vertices) (p .vertices) (q .vertices) (l .sources), put-flat numbersOf 3 (λ t. refl) (k .triangles) (p .triangles) (q .triangles) (l .triangles))
 
 -- from the start of the lists on
-pub laid-start : (b : VertexId) (p : Piece) (l : Lists) → laid (record { base = b; vertices = 0; triangles = 0 }) p l ≡ lent (over (flatV (p .vertices)) (l .vertices)) (over (flatT (p .triangles)) (l .triangles))
-laid-start b p l = rw (put-start (flatV (p .vertices)) (l .vertices), put-start (flatT (p .triangles)) (l .triangles))
+pub laid-start : (b : VertexId) (p : Piece) (l : Lists) → laid (record { base = b; vertices = 0; triangles = 0 }) p l
+    ≡ lent (over (flatV (p .vertices)) (l .vertices)) (over (flatS (p .vertices)) (l .sources)) (over (flatT (p .triangles)) (l .triangles))
+laid-start b p l = rw (put-start (flatV (p .vertices)) (l .vertices), put-start (flatS (p .vertices)) (l .sources), put-start (flatT (p .triangles)) (l .triangles))
 
 -- triangles alone
-pub laid-triangles : (k : Place) (ts : List Tri) (v : List Float) (t t' : List ℕ) → t' ≡ putAt (3 * k .triangles) (flatT ts) t → lent v t' ≡ laid k (record { vertices = []; triangles = ts }) (lent v t)
+pub laid-triangles : (k : Place) (ts : List Tri) (v : List Float) (s t t' : List ℕ) → t' ≡ putAt (3 * k .triangles) (flatT ts) t → lent v s t' ≡ laid k (record { vertices = []; triangles = ts }) (lent v s t)
 unfolding flat
-laid-triangles k ts v t t' e = rw (put-none (5 * k .vertices) v, e)
+laid-triangles k ts v s t t' e = rw (put-none (5 * k .vertices) v, put-none (k .vertices) s, e)
 
 -- a callee that got the parts from the place on wrote the piece at their start
-pub laid-parts : (k : Place) (p : Piece) (v v' : List Float) (t t' : List ℕ) → Fits true k p (lent v t)
-    → v' ≡ over (flatV (p .vertices)) (midOf (5 * k .vertices) (length v - 5 * k .vertices) v) → t' ≡ over (flatT (p .triangles)) (midOf (3 * k .triangles) (length t - 3 * k .triangles) t)
-    → lent (putMid (5 * k .vertices) (length v - 5 * k .vertices) v v') (putMid (3 * k .triangles) (length t - 3 * k .triangles) t t') ≡ laid k p (lent v t)
-laid-parts k p v v' t t' h ev et =
-    rw (put-part v v' (flatV (p .vertices)) (5 * k .vertices) (omega (arith, h .vertices refl)) ev, put-part t t' (flatT (p .triangles)) (3 * k .triangles) (omega (arith, h .triangles refl)) et)
+pub laid-parts : (k : Place) (p : Piece) (v v' : List Float) (s s' t t' : List ℕ) → Fits true k p (lent v s t)
+    → v' ≡ over (flatV (p .vertices)) (midOf (5 * k .vertices) (length v - 5 * k .vertices) v) → s' ≡ over (flatS (p .vertices)) (midOf (k .vertices) (length s - k .vertices) s)
+    → t' ≡ over (flatT (p .triangles)) (midOf (3 * k .triangles) (length t - 3 * k .triangles) t)
+    → lent (putMid (5 * k .vertices) (length v - 5 * k .vertices) v v') (putMid (k .vertices) (length s - k .vertices) s s') (putMid (3 * k .triangles) (length t - 3 * k .triangles) t t') ≡ laid k p (lent v s t)
+laid-parts k p v v' s s' t t' h ev es et = rw (
+  put-part v v' (flatV (p .vertices)) (5 * k .vertices) (omega (arith, h .vertices refl)) ev,
+  put-part s s' (flatS (p .vertices)) (k .vertices) (omega (arith, h .sources refl)) es,
+  put-part t t' (flatT (p .triangles)) (3 * k .triangles) (omega (arith, h .triangles refl)) et,
+)
 
 -- ---- passes
 pub puts-none : {write : Bool} {k : Place} {l : Lists} → Passes write k none l l k
@@ -74,7 +89,7 @@ module _ {write : Bool} {k : Place} {l : Lists} where
   fits-front p q h =
       let a = length-append (p .vertices) (q .vertices) in
       let b = length-append (p .triangles) (q .triangles) in
-      record { numbers = omega (arith, h .numbers); faces = omega (arith, h .faces); vertices = λ w. omega (arith, h .vertices w); triangles = λ w. omega (arith, h .triangles w) }
+      record { numbers = omega (arith, h .numbers); faces = omega (arith, h .faces); vertices = λ w. omega (arith, h .vertices w); sources = λ w. omega (arith, h .sources w); triangles = λ w. omega (arith, h .triangles w) }
 
   pub fits-back : (p q : Piece) → Fits write k (joined p q) l → {l1 : Lists} {k1 : Place} → Passes write k p l l1 k1 → Fits write k1 q l1
   fits-back p q h e =
@@ -84,6 +99,7 @@ module _ {write : Bool} {k : Place} {l : Lists} where
         numbers = omega (arith, h .numbers);
         faces = omega (arith, h .faces);
         vertices = λ w. rw (e .lists w, length-put) (omega (arith, h .vertices w));
+        sources = λ w. rw (e .lists w, length-put) (omega (arith, h .sources w));
         triangles = λ w. rw (e .lists w, length-put) (omega (arith, h .triangles w));
       })
 
@@ -91,28 +107,41 @@ module _ {write : Bool} {k : Place} {l : Lists} where
 part-room : {A : Type 0} (xs : List A) (a n : ℕ) → a + n ≤ length xs → n ≤ length (midOf a (length xs - a) xs)
 part-room xs a n h = let r : a ≤ length xs = omega arith in rw (part-is xs a r) (simp length-drop (omega arith))
 
-module _ (k : Place) (p : Piece) (v : List Float) (t : List ℕ) where
-  -- the parts that begin at a and b, and the whole lists once these are back
-  abbrev parts : ℕ → ℕ → Lists
-  parts a b = lent (midOf a (length v - a) v) (midOf b (length t - b) t)
+module _ (k : Place) (p : Piece) (v : List Float) (s t : List ℕ) where
+  -- where the parts begin
+  abbrev fromV : Bool → ℕ
+  fromV write = cond write (5 * k .vertices) 0
 
-  abbrev whole : ℕ → ℕ → List Float → List ℕ → Lists
-  whole a b v' t' = lent (putMid a (length v - a) v v') (putMid b (length t - b) t t')
+  abbrev fromS : Bool → ℕ
+  fromS write = cond write (k .vertices) 0
+
+  abbrev fromT : Bool → ℕ
+  fromT write = cond write (3 * k .triangles) 0
+
+  -- the parts that begin at a, b and c, and the whole lists once these are back
+  abbrev parts : ℕ → ℕ → ℕ → Lists
+  parts a b c = lent (midOf a (length v - a) v) (midOf b (length s - b) s) (midOf c (length t - c) t)
+
+  abbrev whole : ℕ → ℕ → ℕ → List Float → List ℕ → List ℕ → Lists
+  whole a b c v' s' t' = lent (putMid a (length v - a) v v') (putMid b (length s - b) s s') (putMid c (length t - c) t t')
 
   -- the place reached, in the whole lists
   abbrev pub reached : Place → Place
   reached r = record { base = k .base; vertices = k .vertices + r .vertices; triangles = k .triangles + r .triangles }
 
-  pub parts-inside : (write : Bool) → Fits write k p (lent v t) → (cond write (5 * k .vertices) 0 ≤ length v) × (cond write (3 * k .triangles) 0 ≤ length t)
-  parts-inside true f = omega (arith, f .vertices refl, f .triangles refl)
+  pub parts-inside : (write : Bool) → Fits write k p (lent v s t) → (fromV write ≤ length v) × (fromS write ≤ length s) × (fromT write ≤ length t)
+  parts-inside true f = omega (arith, f .vertices refl, f .sources refl, f .triangles refl)
   parts-inside false f = omega arith
 
-  pub parts-fit : (write : Bool) → Fits write k p (lent v t) → Fits write (anew k) p (parts (cond write (5 * k .vertices) 0) (cond write (3 * k .triangles) 0))
+  pub parts-fit : (write : Bool) → Fits write k p (lent v s t) → Fits write (anew k) p (parts (fromV write) (fromS write) (fromT write))
   parts-fit true f =
       let a = part-room v (5 * k .vertices) (5 * length (p .vertices)) (omega (arith, f .vertices refl)) in
-      let b = part-room t (3 * k .triangles) (3 * length (p .triangles)) (omega (arith, f .triangles refl)) in
-      record { numbers = omega (arith, f .numbers); faces = omega (arith, f .faces); vertices = λ _. omega (arith, a); triangles = λ _. omega (arith, b) }
-  parts-fit false f = record { numbers = omega (arith, f .numbers); faces = omega (arith, f .faces); vertices = λ w. absurd (true≢false (sym w)); triangles = λ w. absurd (true≢false (sym w)) }
+      let b = part-room s (k .vertices) (length (p .vertices)) (f .sources refl) in
+      let c = part-room t (3 * k .triangles) (3 * length (p .triangles)) (omega (arith, f .triangles refl)) in
+      record { numbers = omega (arith, f .numbers); faces = omega (arith, f .faces); vertices = λ _. omega (arith, a); sources = λ _. omega (arith, b); triangles = λ _. omega (arith, c) }
+  parts-fit false f =
+      let no : false ≢ true = λ w. true≢false (sym w) in
+      record { numbers = omega (arith, f .numbers); faces = omega (arith, f .faces); vertices = λ w. absurd (no w); sources = λ w. absurd (no w); triangles = λ w. absurd (no w) }
 
   place-is : (r : Place) → r ≡ behind (anew k) p → reached r ≡ behind k p
   place-is r e =
@@ -120,10 +149,13 @@ module _ (k : Place) (p : Piece) (v : List Float) (t : List ℕ) where
       let b : k .triangles + (0 + length (p .triangles)) ≡ k .triangles + length (p .triangles) = omega arith in
       rw (e, a, b)
 
-  pub parts-put : (write : Bool) → Fits write k p (lent v t) → (v' : List Float) (t' : List ℕ) (r : Place)
-      → Passes write (anew k) p (parts (cond write (5 * k .vertices) 0) (cond write (3 * k .triangles) 0)) (lent v' t') r
-      → Passes write k p (lent v t) (whole (cond write (5 * k .vertices) 0) (cond write (3 * k .triangles) 0) v' t') (reached r)
-  parts-put true f v' t' r e =
-      let l = e .lists refl ∙ laid-start (anew k .base) p (parts (5 * k .vertices) (3 * k .triangles)) in
-      record { place = place-is r (e .place); lists = λ _. laid-parts k p v v' t t' f (ap (λ (x : Lists). x .vertices) l) (ap (λ (x : Lists). x .triangles) l) }
-  parts-put false f v' t' r e = record { place = place-is r (e .place); lists = λ w. absurd (true≢false (sym w)) }
+  pub parts-put : (write : Bool) → Fits write k p (lent v s t) → (v' : List Float) (s' t' : List ℕ) (r : Place)
+      → Passes write (anew k) p (parts (fromV write) (fromS write) (fromT write)) (lent v' s' t') r
+      → Passes write k p (lent v s t) (whole (fromV write) (fromS write) (fromT write) v' s' t') (reached r)
+  parts-put true f v' s' t' r e =
+      let l = e .lists refl ∙ laid-start (anew k .base) p (parts (5 * k .vertices) (k .vertices) (3 * k .triangles)) in
+      record {
+        place = place-is r (e .place);
+        lists = λ _. laid-parts k p v v' s s' t t' f (ap (λ (x : Lists). x .vertices) l) (ap (λ (x : Lists). x .sources) l) (ap (λ (x : Lists). x .triangles) l);
+      }
+  parts-put false f v' s' t' r e = record { place = place-is r (e .place); lists = λ w. absurd (true≢false (sym w)) }

@@ -12,19 +12,26 @@ use Rattle.lists.specs.Over.{putAt, flat}
 use Rattle.triangles.specs.Tri.{Tri, numbersOf}
 use Rattle.pieces.specs.declared.Place.{Place}
 
--- "five f32 to a vertex (x, y, normal x, normal y, advancement)"
+-- "five f32 to a vertex (x, y, normal x, normal y, advancement)", and W-206: "Every vertex gains a record in a further lent u32 list"
 pub record Vertex : Type 0 where
   pub x : Float
   pub y : Float
   pub normalX : Float
   pub normalY : Float
   pub advancement : Float
+  pub source : ℕ
 
 abbrev pub floatsOf : Vertex → List Float
 floatsOf v = v .x ∷ v .y ∷ v .normalX ∷ v .normalY ∷ v .advancement ∷ []
 
+abbrev pub sourcesOf : Vertex → List ℕ
+sourcesOf v = v .source ∷ []
+
 abbrev pub flatV : List Vertex → List Float
 flatV = flat floatsOf
+
+abbrev pub flatS : List Vertex → List ℕ
+flatS = flat sourcesOf
 
 abbrev pub flatT : List Tri → List ℕ
 flatT = flat numbersOf
@@ -60,20 +67,26 @@ anew k = from (record { 0 = nextVertex k })
 -- the lists that are lent
 pub record Lists : Type 0 where
   pub vertices : List Float
+  pub sources : List ℕ
   pub triangles : List ℕ
 
-abbrev pub lent : List Float → List ℕ → Lists
-lent v t = record { vertices = v; triangles = t }
+abbrev pub lent : List Float → List ℕ → List ℕ → Lists
+lent v s t = record { vertices = v; sources = s; triangles = t }
 
 -- the lists once a piece is written at a place; nothing else is changed
 abbrev pub laid : Place → Piece → Lists → Lists
-laid k p l = record { vertices = putAt (5 * k .vertices) (flatV (p .vertices)) (l .vertices); triangles = putAt (3 * k .triangles) (flatT (p .triangles)) (l .triangles) }
+laid k p l = record {
+  vertices = putAt (5 * k .vertices) (flatV (p .vertices)) (l .vertices);
+  sources = putAt (k .vertices) (flatS (p .vertices)) (l .sources);
+  triangles = putAt (3 * k .triangles) (flatT (p .triangles)) (l .triangles);
+}
 
 -- What a pass needs that writes a piece at a place, or only counts it: a u32 holds the numbers and, where it writes, there is room.
 pub record Fits (write : Bool) (k : Place) (p : Piece) (l : Lists) : Type 0 where
   pub numbers : nextVertex k + length (p .vertices) < idLimit
   pub faces : k .triangles + length (p .triangles) < idLimit
   pub vertices : write ≡ true → 5 * (k .vertices + length (p .vertices)) ≤ length (l .vertices)
+  pub sources : write ≡ true → k .vertices + length (p .vertices) ≤ length (l .sources)
   pub triangles : write ≡ true → 3 * (k .triangles + length (p .triangles)) ≤ length (l .triangles)
 
 -- where it writes, the piece is there

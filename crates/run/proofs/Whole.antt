@@ -17,20 +17,24 @@ use Rattle.endpoint.specs.declared.VertexId.{VertexId}
 use Rattle.vertices.specs.Cap.{capVerticesOf, capTrianglesOf}
 use Rattle.vertices.specs.Vertex.{triangleOf}
 use Rattle.vertices.proofs.Laws.{length-cap}
+use Rattle.lists.specs.All.{All}
 use Rattle.lists.specs.Over.{over}
 use Rattle.lists.proofs.Parts.{part-is, put-part}
-use Rattle.pieces.specs.Piece.{flatV, flatT, Piece, joined, behind, from, Lists, lent, laid, Fits, Passes, Lays}
+use Rattle.pieces.specs.Piece.{flatV, flatS, flatT, Piece, joined, behind, from, Lists, lent, laid, Fits, Passes, Lays}
 use Rattle.pieces.specs.declared.Place.{Place}
 use Rattle.pieces.proofs.Pieces.{puts-both, fits-front, fits-back, laid-triangles, laid-start}
 use Rattle.pieces.proofs.Pieces as pieces
 use Rattle.options.specs.declared.Stroke.{Stroke}
 use Rattle.joints.proofs.Lengths.{joints-length}
+use Rattle.joints.proofs.Numbered.{joints-numbered}
 use Rattle.kept.specs.Kept.{keptPoints}
 use Rattle.joints.specs.Joint.{jointsOf}
 use Rattle.kept.specs.Points.{endpointsOf, endpointAt}
 use Rattle.kept.specs.Looks.{FirstFar, Ended, runFrom}
 use Rattle.kept.proofs.Indexed.{points-length}
+use Rattle.kept.proofs.Numbered.{run-numbered}
 use Rattle.kept.proofs.Looks.{kept-far, kept-alone, kept-ended}
+use Rattle.along.specs.Strips.{Within}
 use Rattle.along.specs.declared.Pass.{Pass}
 use Rattle.strip.specs.Joint.{vertexCount, verticesOf}
 use Rattle.strip.specs.Strip.{StripFits, startOf, stepsOf, pieceOf}
@@ -56,14 +60,17 @@ module _ (o : Stroke) (base : VertexId) (js : List EndpointData) where
   closed-is = rw (triangles-are true base js, append-nil (verticesOf js))
 
   module _ {write : Bool} {l : Lists} where
-    pub open-has : Fits write (from base) (shapePiece o false base (along js)) l → StripFits write (startOf base) js l
-    open-has h = record { sound = sound-start base; fits = rw open-is at h }
+    pub open-has : All (λ (j : EndpointData). j .id .0 < idLimit) js → Fits write (from base) (shapePiece o false base (along js)) l → StripFits write (startOf base) js l
+    open-has n h = record { sound = sound-start base; numbered = n; fits = rw open-is at h }
 
-    pub closed-has : Fits write (from base) (shapePiece o true base (along js)) l → StripFits write (startOf base) js l
-    closed-has h = record { sound = sound-start base; fits = fits-front (pieceOf (startOf base) js) (roundPiece (stepsOf (startOf base) js)) (rw closed-is at h) }
+    pub closed-has : All (λ (j : EndpointData). j .id .0 < idLimit) js → Fits write (from base) (shapePiece o true base (along js)) l → StripFits write (startOf base) js l
+    closed-has n h = record { sound = sound-start base; numbered = n; fits = fits-front (pieceOf (startOf base) js) (roundPiece (stepsOf (startOf base) js)) (rw closed-is at h) }
 
     pub open-drawn : {l' : Lists} {s : Strip} → strip.StripPasses write js (startOf base) l l' s → Passes write (from base) (shapePiece o false base (along js)) l l' (s .place)
     open-drawn e = rw open-is (puts-piece e)
+
+pub within-numbered : (closed : Bool) (o : Stroke) {p : List Float} {first i : ℕ} → Within p first i → All (λ (j : EndpointData). j .id .0 < idLimit) (jointsOf closed o (runFrom (o .near) p first i))
+within-numbered closed o {p} {first} {i} h = joints-numbered closed o (runFrom (o .near) p first i) (run-numbered (o .near) p first i (h .point) (h .few))
 
 -- ---- round to the first section
 pub close-room : (s : Strip) (t : List ℕ) → Rounds s t → 3 * length (between (s .last) (s .first)) ≤ length (midOf (3 * s .place .triangles) (length t - 3 * s .place .triangles) t)
@@ -87,11 +94,11 @@ module _ (o : Stroke) (p q : Endpoint) (ks : List Endpoint) where
   abbrev js : List EndpointData
   js = jointsOf true o (p ∷ q ∷ ks)
 
-  module _ {write : Bool} {base : VertexId} {l : Lists} {v1 : List Float} {t1 : List ℕ} {s : Strip} (h : Fits write (from base) (shapePiece o true base (along js)) l) (e : strip.StripPasses write js (startOf base) l (lent v1 t1) s) where
+  module _ {write : Bool} {base : VertexId} {l : Lists} {v1 : List Float} {s1 t1 : List ℕ} {s : Strip} (h : Fits write (from base) (shapePiece o true base (along js)) l) (e : strip.StripPasses write js (startOf base) l (lent v1 s1 t1) s) where
     is-round : shapePiece o true base (along js) ≡ joined (pieceOf (startOf base) js) (roundPiece s)
     is-round = rw (e .state) (closed-is o base js)
 
-    round-fits : Fits write (s .place) (roundPiece s) (lent v1 t1)
+    round-fits : Fits write (s .place) (roundPiece s) (lent v1 s1 t1)
     round-fits = fits-back (pieceOf (startOf base) js) (roundPiece s) (rw is-round at h) (puts-piece e)
 
     pub rounds : write ≡ true → Rounds s t1
@@ -101,11 +108,11 @@ module _ (o : Stroke) (p q : Endpoint) (ks : List Endpoint) where
     }
 
     pub closed-drawn : (t2 : List ℕ) → (write ≡ true → t2 ≡ roundedOf s t1)
-        → Passes write (from base) (shapePiece o true base (along js)) l (lent v1 t2) (record { base = s .place .base; vertices = s .place .vertices; triangles = s .place .vertices })
+        → Passes write (from base) (shapePiece o true base (along js)) l (lent v1 s1 t2) (record { base = s .place .base; vertices = s .place .vertices; triangles = s .place .vertices })
     unfolding shapeVertices shapeTriangles
     closed-drawn t2 et =
-        let b : Passes write (from base) (joined (pieceOf (startOf base) js) (roundPiece s)) l (lent v1 t2) (behind (s .place) (roundPiece s)) =
-        puts-both (puts-piece e) (record { place = refl; lists = λ w. laid-triangles (s .place) (between (s .last) (s .first)) v1 t1 t2 (et w) }) in
+        let b : Passes write (from base) (joined (pieceOf (startOf base) js) (roundPiece s)) l (lent v1 s1 t2) (behind (s .place) (roundPiece s)) =
+        puts-both (puts-piece e) (record { place = refl; lists = λ w. laid-triangles (s .place) (between (s .last) (s .first)) v1 s1 t1 t2 (et w) }) in
         let z = puts-piece e .place in
         let m : 0 + length (verticesOf js) ≡ 0 + length (trianglesOf true (base .0) js) = omega (arith, length-vertices js, all-named o (base .0) p q ks) in
         record { place = rw (z, m); lists = λ w. b .lists w ∙ ap (λ (x : Piece). laid (from base) x l) (sym is-round) }
@@ -114,7 +121,7 @@ module _ (o : Stroke) (p q : Endpoint) (ks : List Endpoint) where
 pub length-shape : (o : Stroke) (s : Shape) → length (shapeVertices o s) ≡ shapeCount s
 unfolding shapeVertices shapeCount
 length-shape o nothing = refl
-length-shape o (emptyCap p) = length-cap (p .position) (o .«half_width») (f32 0)
+length-shape o (emptyCap p) = length-cap p (o .«half_width») (f32 0)
 length-shape o (along js) = length-vertices js
 
 -- ---- one kept point
@@ -128,19 +135,19 @@ module _ (o : Stroke) (closed : Bool) (base : VertexId) (p : Endpoint) where
   unfolding shapeTriangles
   cap-fits h = h
 
-  pub cap-room : {v : List Float} {t : List ℕ} → Fits true (from base) (shapePiece o closed base (emptyCap p)) (lent v t) → (20 ≤ length v) × (6 ≤ length t) × (base .0 + 4 ≤ idLimit)
+  pub cap-room : {v : List Float} {s t : List ℕ} → Fits true (from base) (shapePiece o closed base (emptyCap p)) (lent v s t) → ((20 ≤ length v) × (4 ≤ length s) × (6 ≤ length t)) × (base .0 + 4 ≤ idLimit)
   unfolding shapeVertices shapeTriangles
-  cap-room h = let n = length-cap (p .position) (o .«half_width») (f32 0) in (omega (arith, h .vertices refl), omega (arith, h .triangles refl), omega (arith, h .numbers))
+  cap-room h = let n = length-cap p (o .«half_width») (f32 0) in ((omega (arith, h .vertices refl), omega (arith, h .sources refl), omega (arith, h .triangles refl)), omega (arith, h .numbers))
 
-  pub cap-laid : (v : List Float) (t : List ℕ) {v' : List Float} {t' : List ℕ} → (v' ≡ over (flatV (capVerticesOf (p .position) (o .«half_width») (f32 0))) v) × (t' ≡ over (flatT (capTrianglesOf base)) t)
-      → lent v' t' ≡ laid (from base) (shapePiece o closed base (emptyCap p)) (lent v t)
+  pub cap-laid : (v : List Float) (s t : List ℕ) {v' : List Float} {s' t' : List ℕ} → v' ≡ over (flatV (capVerticesOf p (o .«half_width») (f32 0))) v → s' ≡ over (flatS (capVerticesOf p (o .«half_width») (f32 0))) s
+      → t' ≡ over (flatT (capTrianglesOf base)) t → lent v' s' t' ≡ laid (from base) (shapePiece o closed base (emptyCap p)) (lent v s t)
   unfolding shapeVertices shapeTriangles capTrianglesOf triangleOf
-  cap-laid v t e = rw (e .0, e .1) (sym (laid-start base (shapePiece o closed base (emptyCap p)) (lent v t)))
+  cap-laid v s t ev es et = rw (ev, es, et) (sym (laid-start base (shapePiece o closed base (emptyCap p)) (lent v s t)))
 
   pub cap-drawn : {write : Bool} {l l' : Lists} → Lays write (from base) (shapePiece o false base (emptyCap p)) l l'
       → Passes write (from base) (shapePiece o closed base (emptyCap p)) l l' (record { base = base; vertices = 4; triangles = 2 })
   unfolding shapeVertices shapeTriangles
-  cap-drawn h = record { place = rw (length-cap (p .position) (o .«half_width») (f32 0)); lists = h }
+  cap-drawn h = record { place = rw (length-cap p (o .«half_width») (f32 0)); lists = h }
 
 -- ---- a run under another name
 module _ (pass : Pass) {closed d : Bool} (c : closed ≡ d) {base : VertexId} {s r : Shape} (e : s ≡ r) {l : Lists} where

@@ -50,7 +50,7 @@ shapeCount (along js) = vertexCount js
 -- its vertices. "Its advancement is 0": an empty cap's
 unfoldable pub shapeVertices : Stroke → Shape → List Vertex
 shapeVertices o nothing = []
-shapeVertices o (emptyCap p) = capVerticesOf (p .position) (o .«half_width») (f32 0)
+shapeVertices o (emptyCap p) = capVerticesOf p (o .«half_width») (f32 0)
 shapeVertices o (along js) = verticesOf js
 
 -- its triangles, where its vertices are numbered from base

@@ -49,12 +49,20 @@ fn close_round(t: &mut [Index], s: Strip, write: bool)
 }
 
 // A closed run has as many triangles as vertices.
-fn draw_closed(v: &mut [f32], t: &mut [Index], pass: Pass, p: &[f32], at: At, i: usize) -> Place
+fn draw_closed(
+    v: &mut [f32],
+    src: &mut [u32],
+    t: &mut [Index],
+    pass: Pass,
+    p: &[f32],
+    at: At,
+    i: usize,
+) -> Place
     requires { ⌜ Within (now p) (at .endpoint .0) i ⌝ }
-    requires { ⌜ DrawFits pass true (at .vertex) (along (jointsOf true (pass .stroke) (runFrom (pass .stroke .near) (now p) (at .endpoint .0) i))) (lent (now v) (now t)) ⌝ }
-    ensures { λ r. ⌜ Draws pass true (at .vertex) (along (jointsOf true (pass .stroke) (runFrom (pass .stroke .near) (now (p .entry)) (at .endpoint .0) i))) (lent (now (v .entry)) (now (t .entry))) (lent (now (v .exit)) (now (t .exit))) r ⌝ }
+    requires { ⌜ DrawFits pass true (at .vertex) (along (jointsOf true (pass .stroke) (runFrom (pass .stroke .near) (now p) (at .endpoint .0) i))) (lent (now v) (now src) (now t)) ⌝ }
+    ensures { λ r. ⌜ Draws pass true (at .vertex) (along (jointsOf true (pass .stroke) (runFrom (pass .stroke .near) (now (p .entry)) (at .endpoint .0) i))) (lent (now (v .entry)) (now (src .entry)) (now (t .entry))) (lent (now (v .exit)) (now (src .exit)) (now (t .exit))) r ⌝ }
 {
-    let s = pass_closed(v, t, pass, p, at, i);
+    let s = pass_closed(v, src, t, pass, p, at, i);
     close_round(t, s, pass.write);
     let end = s.place;
     let base = end.base;
@@ -77,30 +85,40 @@ fn draws_cap(o: Stroke, ends: Ends) -> bool
 }
 
 // The empty cap at a point, where the pass writes.
-fn lay_empty_cap(v: &mut [f32], t: &mut [Index], pass: Pass, p: Endpoint, base: VertexId)
-    requires { ⌜ DrawFits pass false base (emptyCap p) (lent (now v) (now t)) ⌝ }
-    ensures { λ _. ⌜ Lays (pass .write) (from base) (shapePiece (pass .stroke) false base (emptyCap p)) (lent (now (v .entry)) (now (t .entry))) (lent (now (v .exit)) (now (t .exit))) ⌝ }
+fn lay_empty_cap(
+    v: &mut [f32],
+    src: &mut [u32],
+    t: &mut [Index],
+    pass: Pass,
+    p: Endpoint,
+    base: VertexId,
+)
+    requires { ⌜ p .id .0 < idLimit ⌝ }
+    requires { ⌜ DrawFits pass false base (emptyCap p) (lent (now v) (now src) (now t)) ⌝ }
+    ensures { λ _. ⌜ Lays (pass .write) (from base) (shapePiece (pass .stroke) false base (emptyCap p)) (lent (now (v .entry)) (now (src .entry)) (now (t .entry))) (lent (now (v .exit)) (now (src .exit)) (now (t .exit))) ⌝ }
 {
     let o = pass.stroke;
     if pass.write {
-        tessellate_empty_square_cap(v, t, base, p.position, o.half_width, 0.0);
+        tessellate_empty_square_cap(v, src, t, base, p, o.half_width, 0.0);
     }
 }
 
 // A run of one kept point.
 fn draw_alone(
     v: &mut [f32],
+    src: &mut [u32],
     t: &mut [Index],
     pass: Pass,
     p: Endpoint,
     base: VertexId,
     ends: Ends,
 ) -> Place
-    requires { ⌜ DrawFits pass (ends .closed) base (shapeOfKept (pass .stroke) (ends .closed) (ends .lines) (p ∷ [])) (lent (now v) (now t)) ⌝ }
-    ensures { λ r. ⌜ Draws pass (ends .closed) base (shapeOfKept (pass .stroke) (ends .closed) (ends .lines) (p ∷ [])) (lent (now (v .entry)) (now (t .entry))) (lent (now (v .exit)) (now (t .exit))) r ⌝ }
+    requires { ⌜ p .id .0 < idLimit ⌝ }
+    requires { ⌜ DrawFits pass (ends .closed) base (shapeOfKept (pass .stroke) (ends .closed) (ends .lines) (p ∷ [])) (lent (now v) (now src) (now t)) ⌝ }
+    ensures { λ r. ⌜ Draws pass (ends .closed) base (shapeOfKept (pass .stroke) (ends .closed) (ends .lines) (p ∷ [])) (lent (now (v .entry)) (now (src .entry)) (now (t .entry))) (lent (now (v .exit)) (now (src .exit)) (now (t .exit))) r ⌝ }
 {
     if draws_cap(pass.stroke, ends) {
-        lay_empty_cap(v, t, pass, p, base);
+        lay_empty_cap(v, src, t, pass, p, base);
         return Place {
             base,
             vertices: 4,
@@ -115,27 +133,36 @@ fn draw_alone(
 }
 
 // The points of p, none of which is dropped on closing.
-fn draw_kept(v: &mut [f32], t: &mut [Index], pass: Pass, p: &[f32], at: At, ends: Ends) -> Place
+fn draw_kept(
+    v: &mut [f32],
+    src: &mut [u32],
+    t: &mut [Index],
+    pass: Pass,
+    p: &[f32],
+    at: At,
+    ends: Ends,
+) -> Place
     requires { ⌜ (2 ≤ length (now p)) × (at .endpoint .0 + length (now p) < idLimit) ⌝ }
-    requires { ⌜ DrawFits pass (ends .closed) (at .vertex) (shapeOfKept (pass .stroke) (ends .closed) (ends .lines) (keptPoints (pass .stroke .near) false (endpointsOf (at .endpoint .0) (now p)))) (lent (now v) (now t)) ⌝ }
-    ensures { λ r. ⌜ Draws pass (ends .closed) (at .vertex) (shapeOfKept (pass .stroke) (ends .closed) (ends .lines) (keptPoints (pass .stroke .near) false (endpointsOf (at .endpoint .0) (now (p .entry))))) (lent (now (v .entry)) (now (t .entry))) (lent (now (v .exit)) (now (t .exit))) r ⌝ }
+    requires { ⌜ DrawFits pass (ends .closed) (at .vertex) (shapeOfKept (pass .stroke) (ends .closed) (ends .lines) (keptPoints (pass .stroke .near) false (endpointsOf (at .endpoint .0) (now p)))) (lent (now v) (now src) (now t)) ⌝ }
+    ensures { λ r. ⌜ Draws pass (ends .closed) (at .vertex) (shapeOfKept (pass .stroke) (ends .closed) (ends .lines) (keptPoints (pass .stroke .near) false (endpointsOf (at .endpoint .0) (now (p .entry))))) (lent (now (v .entry)) (now (src .entry)) (now (t .entry))) (lent (now (v .exit)) (now (src .exit)) (now (t .exit))) r ⌝ }
 {
     let o = pass.stroke;
     let i = first_far(o.near, p, at.endpoint);
     if p.len() / 2 <= i {
         let alone = endpoint_at(p, at.endpoint, 0);
-        return draw_alone(v, t, pass, alone, at.vertex, ends);
+        return draw_alone(v, src, t, pass, alone, at.vertex, ends);
     }
     if ends.closed {
-        return draw_closed(v, t, pass, p, at, i);
+        return draw_closed(v, src, t, pass, p, at, i);
     }
-    let s = pass_open(v, t, pass, p, at, i);
+    let s = pass_open(v, src, t, pass, p, at, i);
     s.place
 }
 
 // A run whose coordinates are p. The result is the place behind it.
 pub fn draw_run(
     v: &mut [f32],
+    src: &mut [u32],
     t: &mut [Index],
     pass: Pass,
     p: &[f32],
@@ -143,8 +170,8 @@ pub fn draw_run(
     closed: bool,
 ) -> Place
     requires { ⌜ at .endpoint .0 + length (now p) < idLimit ⌝ }
-    requires { ⌜ DrawFits pass closed (at .vertex) (shapeOf (pass .stroke) closed (endpointsOf (at .endpoint .0) (now p))) (lent (now v) (now t)) ⌝ }
-    ensures { λ r. ⌜ Draws pass closed (at .vertex) (shapeOf (pass .stroke) closed (endpointsOf (at .endpoint .0) (now (p .entry)))) (lent (now (v .entry)) (now (t .entry))) (lent (now (v .exit)) (now (t .exit))) r ⌝ }
+    requires { ⌜ DrawFits pass closed (at .vertex) (shapeOf (pass .stroke) closed (endpointsOf (at .endpoint .0) (now p))) (lent (now v) (now src) (now t)) ⌝ }
+    ensures { λ r. ⌜ Draws pass closed (at .vertex) (shapeOf (pass .stroke) closed (endpointsOf (at .endpoint .0) (now (p .entry)))) (lent (now (v .entry)) (now (src .entry)) (now (t .entry))) (lent (now (v .exit)) (now (src .exit)) (now (t .exit))) r ⌝ }
 {
     let o = pass.stroke;
     if p.len() < 2 {
@@ -161,7 +188,7 @@ pub fn draw_run(
     };
     if closed {
         let to = 2 * kept_end(o.near, p, at.endpoint);
-        return draw_kept(v, t, pass, &p[..to], at, ends);
+        return draw_kept(v, src, t, pass, &p[..to], at, ends);
     }
-    draw_kept(v, t, pass, p, at, ends)
+    draw_kept(v, src, t, pass, p, at, ends)
 }

@@ -56,26 +56,29 @@ module _ (o : Stroke) (g : Cursor) (verb : ℕ) (ps : List Endpoint) where
       let r = currentOf g verb ps in
       rw (n, append-nil (shapeVertices o (drawnOf o r)), append-nil (shapeTriangles (r .closed) (nextVertex (g .place)) (drawnOf o r)))
 
-  -- it is drawn in the parts that begin at a and b, whose first vertex has the number `vertex`, from its points qs
-  module _ {write : Bool} {v : List Float} {t : List ℕ} {a b : ℕ} {vertex : VertexId} {qs : List Endpoint} (n : names verb ≡ false) (ea : a ≡ cond write (5 * g .place .vertices) 0)
-      (eb : b ≡ cond write (3 * g .place .triangles) 0) (ev : vertex ≡ record { 0 = nextVertex (g .place) }) (eq : qs ≡ currentOf g verb ps .points)
-      (h : Fits write (g .place) (meshPiece o (g .place) (endedOf g verb ps)) (lent v t)) where
-    run-fits : Fits write (g .place) run (lent v t)
+  -- it is drawn in the parts that begin at a, b and c, whose first vertex has the number `vertex`, from its points qs
+  module _ {write : Bool} {v : List Float} {s t : List ℕ} {a b c : ℕ} {vertex : VertexId} {qs : List Endpoint} (n : names verb ≡ false) (ea : a ≡ cond write (5 * g .place .vertices) 0)
+      (eb : b ≡ cond write (g .place .vertices) 0) (ec : c ≡ cond write (3 * g .place .triangles) 0) (ev : vertex ≡ record { 0 = nextVertex (g .place) }) (eq : qs ≡ currentOf g verb ps .points)
+      (h : Fits write (g .place) (meshPiece o (g .place) (endedOf g verb ps)) (lent v s t)) where
+    run-fits : Fits write (g .place) run (lent v s t)
     run-fits = rw (one-is n) at h
 
-    pub part-fits : Fits write (from vertex) (shapePiece o (eqb verb endClosed) vertex (shapeOf o (eqb verb endClosed) qs)) (lent (midOf a (length v - a) v) (midOf b (length t - b) t))
-    part-fits = rw (ea, eb, ev, eq) (parts-fit (g .place) run v t write run-fits)
+    abbrev parts : Lists
+    parts = lent (midOf a (length v - a) v) (midOf b (length s - b) s) (midOf c (length t - c) t)
 
-    module _ {v' : List Float} {t' : List ℕ} {r : Place}
-        (e : Passes write (from vertex) (shapePiece o (eqb verb endClosed) vertex (shapeOf o (eqb verb endClosed) qs)) (lent (midOf a (length v - a) v) (midOf b (length t - b) t)) (lent v' t') r) where
-      drawn : Passes write (anew (g .place)) run (lent (midOf a (length v - a) v) (midOf b (length t - b) t)) (lent v' t') r
+    pub part-fits : Fits write (from vertex) (shapePiece o (eqb verb endClosed) vertex (shapeOf o (eqb verb endClosed) qs)) parts
+    part-fits = rw (ea, eb, ec, ev, eq) (parts-fit (g .place) run v s t write run-fits)
+
+    module _ {v' : List Float} {s' t' : List ℕ} {r : Place} (e : Passes write (from vertex) (shapePiece o (eqb verb endClosed) vertex (shapeOf o (eqb verb endClosed) qs)) parts (lent v' s' t') r) where
+      drawn : Passes write (anew (g .place)) run parts (lent v' s' t') r
       drawn = rw (ev, eq) at e
 
       pub part-few : (nextVertex (g .place) + r .vertices < idLimit) × (g .place .triangles + r .triangles < idLimit)
       part-few = rw (drawn .place) (omega (arith, run-fits .numbers), omega (arith, run-fits .faces))
 
-      pub part-puts : Passes write (g .place) (meshPiece o (g .place) (endedOf g verb ps)) (lent v t) (lent (putMid a (length v - a) v v') (putMid b (length t - b) t t')) (reached (g .place) run v t r)
-      part-puts = rw (one-is n, ea, eb) (parts-put (g .place) run v t write run-fits v' t' r (rw (ea, eb) at drawn))
+      pub part-puts : Passes write (g .place) (meshPiece o (g .place) (endedOf g verb ps)) (lent v s t) (lent (putMid a (length v - a) v v') (putMid b (length s - b) s s') (putMid c (length t - c) t t'))
+          (reached (g .place) run v s t r)
+      part-puts = rw (one-is n, ea, eb, ec) (parts-put (g .place) run v s t write run-fits v' s' t' r (rw (ea, eb, ec) at drawn))
 
 -- ---- the pass
 pub record Going (write : Bool) (o : Stroke) (vs : List ℕ) (ps : List Endpoint) (l0 : Lists) (i : ℕ) (g : Cursor) (l : Lists) : Type 0 where

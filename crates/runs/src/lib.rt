@@ -33,6 +33,7 @@ fn place_of(write: bool, place: usize) -> usize
 // A verb that ends a run draws it, in the parts of the lists that begin where the last run ended.
 fn draw_verb(
     v: &mut [f32],
+    src: &mut [u32],
     t: &mut [Index],
     pass: Pass,
     coords: &[f32],
@@ -40,8 +41,8 @@ fn draw_verb(
     verb: u8,
 ) -> Place
     requires { ⌜ Inside g (now coords) ⌝ }
-    requires { ⌜ Fits (pass .write) (g .place) (meshPiece (pass .stroke) (g .place) (endedOf g verb (endpointsOf 0 (now coords)))) (lent (now v) (now t)) ⌝ }
-    ensures { λ r. ⌜ Passes (pass .write) (g .place) (meshPiece (pass .stroke) (g .place) (endedOf g verb (endpointsOf 0 (now (coords .entry))))) (lent (now (v .entry)) (now (t .entry))) (lent (now (v .exit)) (now (t .exit))) r ⌝ }
+    requires { ⌜ Fits (pass .write) (g .place) (meshPiece (pass .stroke) (g .place) (endedOf g verb (endpointsOf 0 (now coords)))) (lent (now v) (now src) (now t)) ⌝ }
+    ensures { λ r. ⌜ Passes (pass .write) (g .place) (meshPiece (pass .stroke) (g .place) (endedOf g verb (endpointsOf 0 (now (coords .entry))))) (lent (now (v .entry)) (now (src .entry)) (now (t .entry))) (lent (now (v .exit)) (now (src .exit)) (now (t .exit))) r ⌝ }
 {
     let place = g.place;
     if names_point(verb) {
@@ -52,14 +53,16 @@ fn draw_verb(
     let from = 2 * i;
     let to = 2 * (i + g.size);
     let a = place_of(pass.write, 5 * place.vertices);
-    let b = place_of(pass.write, 3 * place.triangles);
+    let b = place_of(pass.write, place.vertices);
+    let c = place_of(pass.write, 3 * place.triangles);
     let at = At {
         endpoint: first,
         vertex: next_vertex(place),
     };
     let run = draw_run(
         &mut v[a..],
-        &mut t[b..],
+        &mut src[b..],
+        &mut t[c..],
         pass,
         &coords[from..to],
         at,
@@ -73,16 +76,23 @@ fn draw_verb(
     }
 }
 
-pub fn draw_runs(v: &mut [f32], t: &mut [Index], pass: Pass, verbs: &[u8], coords: &[f32]) -> Place
+pub fn draw_runs(
+    v: &mut [f32],
+    src: &mut [u32],
+    t: &mut [Index],
+    pass: Pass,
+    verbs: &[u8],
+    coords: &[f32],
+) -> Place
     requires { ⌜ Paired (now verbs) (now coords) ⌝ }
-    requires { ⌜ Fits (pass .write) undrawn (meshPiece (pass .stroke) undrawn (runsOf (now verbs) (now coords))) (lent (now v) (now t)) ⌝ }
-    ensures { λ r. ⌜ Passes (pass .write) undrawn (meshPiece (pass .stroke) undrawn (runsOf (now (verbs .entry)) (now (coords .entry)))) (lent (now (v .entry)) (now (t .entry))) (lent (now (v .exit)) (now (t .exit))) r ⌝ }
+    requires { ⌜ Fits (pass .write) undrawn (meshPiece (pass .stroke) undrawn (runsOf (now verbs) (now coords))) (lent (now v) (now src) (now t)) ⌝ }
+    ensures { λ r. ⌜ Passes (pass .write) undrawn (meshPiece (pass .stroke) undrawn (runsOf (now (verbs .entry)) (now (coords .entry)))) (lent (now (v .entry)) (now (src .entry)) (now (t .entry))) (lent (now (v .exit)) (now (src .exit)) (now (t .exit))) r ⌝ }
 {
     let mut g = start();
     let mut i: usize = 0;
     while i < verbs.len() {
         let verb = verbs[i];
-        let place = draw_verb(v, t, pass, coords, g, verb);
+        let place = draw_verb(v, src, t, pass, coords, g, verb);
         g = moved(g, verb, place);
         i += 1;
     }

@@ -6,6 +6,7 @@ use native.Mathlib.Omega.{arith}
 use lib.ListN.{length, length-append}
 use Rattle.endpoint.specs.Endpoint.{sideCountOf}
 use Rattle.endpoint.specs.declared.EndpointData.{EndpointData}
+use Rattle.endpoint.specs.declared.Side.the-variants.{Positive, Negative}
 use Rattle.endpoint.specs.declared.SidePoints.{SidePoints}
 use Rattle.endpoint.specs.declared.SidePoints.the-variants.{Single, Pair}
 use Rattle.vertices.proofs.Laws.{length-side}
@@ -30,7 +31,7 @@ after-counted base j =
 
 pub length-joint : (j : EndpointData) → length (jointVerticesOf j) ≡ jointCount j
 unfolding jointVerticesOf
-length-joint j = rw (length-append, length-side j (j .positive), length-side j (j .negative))
+length-joint j = rw (length-append, length-side j Positive (j .positive), length-side j Negative (j .negative))
 
 pub length-vertices : (js : List EndpointData) → length (verticesOf js) ≡ vertexCount js
 unfolding verticesOf vertexCount

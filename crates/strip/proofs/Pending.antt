@@ -1,9 +1,12 @@
 -- Passes over joints one after another, from what `pieces` says of pieces: what the first and the second need of both, and what they do together; then a pass
 -- that is part of the way (`Midway`), from its start to its end. Assumes nothing.
+use Prim.Native.Nat.{_<_}
 use mathlib.Core.Path.{_≡_, refl, sym, ap, _∙_}
 use mathlib.Core.Bool.{Bool}
 use mathlib.Core.List.{List, [], _++_, append-assoc, append-nil}
 use Rattle.endpoint.specs.declared.EndpointData.{EndpointData}
+use Rattle.endpoint.specs.Endpoint.{idLimit}
+use Rattle.lists.proofs.All.{all-front, all-back}
 use Rattle.pieces.specs.Piece.{Piece, Lists, laid}
 use Rattle.pieces.specs.Piece as piece
 use Rattle.pieces.proofs.Pieces as pieces
@@ -24,13 +27,14 @@ module _ {write : Bool} {s : Strip} {l : Lists} where
 
   -- one pass after another
   pub has-front : (xs ys : List EndpointData) → StripFits write s (xs ++ ys) l → StripFits write s xs l
-  has-front xs ys h = record { sound = h .sound; fits = pieces.fits-front (pieceOf s xs) (pieceOf (stepsOf s xs) ys) (rw (pieces-append s xs ys) at (h .fits)) }
+  has-front xs ys h = record { sound = h .sound; numbered = all-front (λ (j : EndpointData). j .id .0 < idLimit) xs ys (h .numbered); fits = pieces.fits-front (pieceOf s xs) (pieceOf (stepsOf s xs) ys) (rw (pieces-append s xs ys) at (h .fits)) }
 
   pub has-back : (xs ys : List EndpointData) → StripFits write s (xs ++ ys) l → {l1 : Lists} {s1 : Strip} → StripPasses write xs s l l1 s1 → StripFits write s1 ys l1
   has-back xs ys h e =
       let f = rw (pieces-append s xs ys) at (h .fits) in
       rw (e .state) (record {
         sound = sound-steps s xs (h .sound);
+        numbered = all-back (λ (j : EndpointData). j .id .0 < idLimit) xs ys (h .numbered);
         fits = pieces.fits-back (pieceOf s xs) (pieceOf (stepsOf s xs) ys) f (record { place = steps-place s xs; lists = e .lays });
       })
 

@@ -11,18 +11,19 @@ use lib.ListN.{length, length-append}
 use Rattle.endpoint.specs.Endpoint.{idLimit}
 use Rattle.endpoint.specs.declared.EndpointData.{EndpointData}
 use Rattle.lists.specs.Over.{over, flat}
-use Rattle.pieces.specs.Piece.{Piece, flatV, flatT, lent, laid, Fits}
+use Rattle.pieces.specs.Piece.{Vertex, Piece, sourcesOf, flatV, flatS, flatT, lent, laid, Fits}
 use Rattle.triangles.specs.Tri.{Tri, numbersOf}
 use Rattle.lists.proofs.Laws.{flat-append, length-flat}
 use Rattle.lists.proofs.Parts.{behind}
-use Rattle.pieces.proofs.Pieces.{laid-parts}
+use Rattle.pieces.proofs.Pieces.{laid-parts, length-flatS}
 use Rattle.strip.specs.declared.Strip.{Strip}
 use Rattle.strip.specs.declared.section.Section.{Section}
 use Rattle.strip.specs.Joint.{jointCount, jointVerticesOf}
 use Rattle.strip.specs.Section.{beforeOf, afterOf}
-use Rattle.strip.specs.Triangle.{past}
+use Rattle.strip.specs.Triangle.{between, bothOf, past}
 use Rattle.strip.specs.Strip.{nextOf, stepTriangles, stepPiece, pieceOf, StripFits}
-use Rattle.strip.proofs.Joints.{length-joint}
+use Rattle.strip.proofs.Joints.{joint-few, length-joint}
+use Rattle.strip.proofs.Facts.Ladder.{ladder, between-both}
 use Rattle.strip.proofs.Steps.{piece-one}
 
 -- xs and, in the part behind them, ys, each element spelt by n
@@ -30,6 +31,11 @@ module _ {A B : Type 0} (f : A → List B) (n : ℕ) (size : (x : A) → length 
   pub spelt-behind : (xs ys : List A) (m : ℕ) (t t' t2 : List B) → n * length xs ≤ length t → m ≡ length xs → t' ≡ over (flat f xs) t
       → t2 ≡ over (flat f ys) (midOf (n * m) (length t' - n * m) t') → putMid (n * m) (length t' - n * m) t' t2 ≡ over (flat f (xs ++ ys)) t
   spelt-behind xs ys m t t' t2 h em et eu = rw (flat-append f xs ys) (behind t t' t2 (flat f xs) (flat f ys) (n * m) (rw em (length-flat f n size xs)) (rw em h) et eu)
+
+-- the records of vertices
+pub sources-behind : (xs ys : List Vertex) (m : ℕ) (t t' t2 : List ℕ) → length xs ≤ length t → m ≡ length xs → t' ≡ over (flatS xs) t
+    → t2 ≡ over (flatS ys) (midOf m (length t' - m) t') → putMid m (length t' - m) t' t2 ≡ over (flatS (xs ++ ys)) t
+sources-behind xs ys m t t' t2 h em et eu = rw (flat-append sourcesOf xs ys) (behind t t' t2 (flatS xs) (flatS ys) m (length-flatS xs ∙ sym em) (rw em h) et eu)
 
 -- triangles, with their number
 pub two-writers : (xs ys : List Tri) (m l : ℕ) (t t' t2 : List ℕ) → 3 * length (xs ++ ys) ≤ length t → m ≡ length xs → t' ≡ over (flatT xs) t
@@ -39,33 +45,39 @@ two-writers xs ys m l t t' t2 h em et el eu =
     let n = length-append xs ys in
     (omega arith, spelt-behind numbersOf 3 (λ x. refl) xs ys m t t' t2 (omega arith) em et eu)
 
--- the joint j after the state s: b and a are its sections, l is the last section before it
-pub record Sections (s : Strip) (j : EndpointData) (l b a : Section) : Type 0 where
+-- the joint j after the state s: b and a are its sections
+pub record Sections (s : Strip) (j : EndpointData) (b a : Section) : Type 0 where
   pub before : b ≡ beforeOf (nextOf s) j
   pub after : a ≡ afterOf (nextOf s) j
-  pub last : l ≡ cond (s .begun) (s .last) b
 
-module _ {s : Strip} {j : EndpointData} {v : List Float} {t : List ℕ} (h : StripFits true s (j ∷ []) (lent v t)) where
-  fits : Fits true (s .place) (stepPiece s j) (lent v t)
+module _ {s : Strip} {j : EndpointData} {v : List Float} {src t : List ℕ} (h : StripFits true s (j ∷ []) (lent v src t)) where
+  fits : Fits true (s .place) (stepPiece s j) (lent v src t)
   fits = rw (piece-one s j) at (h .fits)
 
   pub numbers-fit : nextOf s + jointCount j < idLimit
   numbers-fit = omega (arith, fits .numbers, length-joint j)
 
-  pub vertices-fit : 5 * (s .place .vertices + jointCount j) ≤ length v
-  vertices-fit = omega (arith, fits .vertices refl, length-joint j)
+  pub vertices-fit : (5 * (s .place .vertices + jointCount j) ≤ length v) × (s .place .vertices + jointCount j ≤ length src) × (j .id .0 < idLimit)
+  vertices-fit = (omega (arith, fits .vertices refl, length-joint j), omega (arith, fits .sources refl, length-joint j), h .numbered .0)
 
-  module _ {l b a : Section} (x : Sections s j l b a) where
-    past-is : stepTriangles s j ≡ past l b a
+  module _ {b a : Section} (x : Sections s j b a) where
+    past-is : stepTriangles s j ≡ past (cond (s .begun) (s .last) b) b a
     unfolding stepTriangles
-    past-is = rw (x .last, x .after, x .before)
+    past-is = rw (x .after, x .before)
 
-    pub triangles-fit : 3 * (s .place .triangles + length (past l b a)) ≤ length t
+    pub triangles-fit : 3 * (s .place .triangles + length (past (cond (s .begun) (s .last) b) b a)) ≤ length t
     triangles-fit = rw past-is at (fits .triangles refl)
 
-    -- both parts are back
-    pub joint-laid : (v' : List Float) (t' : List ℕ) → v' ≡ over (flatV (jointVerticesOf j)) (midOf (5 * s .place .vertices) (length v - 5 * s .place .vertices) v)
-        → t' ≡ over (flatT (past l b a)) (midOf (3 * s .place .triangles) (length t - 3 * s .place .triangles) t)
-        → lent (putMid (5 * s .place .vertices) (length v - 5 * s .place .vertices) v v') (putMid (3 * s .place .triangles) (length t - 3 * s .place .triangles) t t') ≡ laid (s .place) (pieceOf s (j ∷ [])) (lent v t)
-    joint-laid v' t' ev et =
-        laid-parts (s .place) (stepPiece s j) v v' t t' fits ev (rw past-is et) ∙ ap (λ (p : Piece). laid (s .place) p (lent v t)) (sym (piece-one s j))
+    -- behind a run's last section the numbers are new
+    pub both-come : s .begun ≡ true → between (s .last) b ≡ bothOf (s .last) b
+    unfolding ladder bothOf
+    both-come e = let g = h .sound .behind e in rw (x .before) (between-both (s .last .negative .0) (s .last .positive .0) _ _ _ _ (omega (arith, g, joint-few j)))
+
+    -- the parts are back
+    pub joint-laid : (v' : List Float) (src' t' : List ℕ) → v' ≡ over (flatV (jointVerticesOf j)) (midOf (5 * s .place .vertices) (length v - 5 * s .place .vertices) v)
+        → src' ≡ over (flatS (jointVerticesOf j)) (midOf (s .place .vertices) (length src - s .place .vertices) src)
+        → t' ≡ over (flatT (past (cond (s .begun) (s .last) b) b a)) (midOf (3 * s .place .triangles) (length t - 3 * s .place .triangles) t)
+        → lent (putMid (5 * s .place .vertices) (length v - 5 * s .place .vertices) v v') (putMid (s .place .vertices) (length src - s .place .vertices) src src') (putMid (3 * s .place .triangles) (length t - 3 * s .place .triangles) t t')
+        ≡ laid (s .place) (pieceOf s (j ∷ [])) (lent v src t)
+    joint-laid v' src' t' ev es et =
+        laid-parts (s .place) (stepPiece s j) v v' src src' t t' fits ev es (rw past-is et) ∙ ap (λ (p : Piece). laid (s .place) p (lent v src t)) (sym (piece-one s j))

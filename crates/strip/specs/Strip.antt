@@ -7,6 +7,7 @@ use mathlib.Core.Logic.{_≢_}
 use Rattle.endpoint.specs.Endpoint.{idLimit}
 use Rattle.endpoint.specs.declared.EndpointData.{EndpointData}
 use Rattle.endpoint.specs.declared.VertexId.{VertexId}
+use Rattle.lists.specs.All.{All}
 use Rattle.pieces.specs.Piece.{nextVertex, Piece, Lists, from, behind, Fits, Lays}
 use Rattle.triangles.specs.Tri.{Tri}
 use Rattle.strip.specs.declared.Strip.{Strip}
@@ -91,6 +92,7 @@ pub record StepFits (s : Strip) (p n : ℕ) : Type 0 where
 -- what a pass over the joints js needs
 pub record StripFits (write : Bool) (s : Strip) (js : List EndpointData) (l : Lists) : Type 0 where
   pub sound : Sound s
+  pub numbered : All (λ (j : EndpointData). j .id .0 < idLimit) js
   pub fits : Fits write (s .place) (pieceOf s js) l
 
 -- what it does, from the state s to s': it counts them and, where it writes, writes them

@@ -28,6 +28,10 @@ onNegative s e = triOf (s .negative .0) (e .positive .0) (e .negative .0)
 unfoldable pub between : Section → Section → List Tri
 between s e = onPositive s e ++ onNegative s e
 
+-- both, which none is left out of where no two of their numbers are equal
+unfoldable pub bothOf : Section → Section → List Tri
+bothOf s e = record { a = s .negative .0; b = s .positive .0; c = e .positive .0 } ∷ record { a = s .negative .0; b = e .positive .0; c = e .negative .0 } ∷ []
+
 -- "A join has two sections": from the last section to the one before it, and on to the one after it
 abbrev pub past : Section → Section → Section → List Tri
 past last b a = between last b ++ between b a

@@ -4,11 +4,11 @@ use endpoint::Side;
 use endpoint::side_count;
 use vertices::base::add_join_base_vertices;
 ghost use mathlib.Core.Path.{_≡_};
-ghost use Prim.Native.Nat.{_*_, _≤_};
+ghost use Prim.Native.Nat.{_*_, _≤_, _<_};
 ghost use lib.ListN.{length};
-ghost use Rattle.endpoint.specs.Endpoint.{sideCountOf};
+ghost use Rattle.endpoint.specs.Endpoint.{idLimit, sideCountOf};
 ghost use Rattle.lists.specs.Over.{over};
-ghost use Rattle.pieces.specs.Piece.{flatV};
+ghost use Rattle.pieces.specs.Piece.{flatV, flatS};
 ghost use Rattle.strip.specs.Joint.{jointCount, jointVerticesOf};
 
 // How many vertices a joint has on each side.
@@ -27,11 +27,13 @@ pub fn negative_count(j: EndpointData) -> usize
 }
 
 // Both sides' vertices.
-pub fn put_vertices(v: &mut [f32], j: EndpointData)
-    requires { ⌜ 5 * jointCount j ≤ length (now v) ⌝ }
+pub fn put_vertices(v: &mut [f32], src: &mut [u32], j: EndpointData)
+    requires { ⌜ (5 * jointCount j ≤ length (now v)) × (jointCount j ≤ length (now src)) × (j .id .0 < idLimit) ⌝ }
     ensures { λ _. ⌜ now (v .exit) ≡ over (flatV (jointVerticesOf j)) (now (v .entry)) ⌝ }
+    ensures { λ _. ⌜ now (src .exit) ≡ over (flatS (jointVerticesOf j)) (now (src .entry)) ⌝ }
 {
-    add_join_base_vertices(v, j, Side::Positive);
-    let at = 5 * positive_count(j);
-    add_join_base_vertices(&mut v[at..], j, Side::Negative);
+    add_join_base_vertices(v, src, j, Side::Positive);
+    let n = positive_count(j);
+    let at = 5 * n;
+    add_join_base_vertices(&mut v[at..], &mut src[n..], j, Side::Negative);
 }

@@ -58,28 +58,35 @@ pub fn start(base: VertexId) -> Strip
 }
 
 // One joint more: from the last section to the one before it, and on to the one after it.
-pub fn lay_joint(v: &mut [f32], t: &mut [Index], s: Strip, j: EndpointData)
-    requires { ⌜ StripFits true s (j ∷ []) (lent (now v) (now t)) ⌝ }
-    ensures { λ _. ⌜ lent (now (v .exit)) (now (t .exit)) ≡ laid (s .place) (pieceOf s (j ∷ [])) (lent (now (v .entry)) (now (t .entry))) ⌝ }
+pub fn lay_joint(v: &mut [f32], src: &mut [u32], t: &mut [Index], s: Strip, j: EndpointData)
+    requires { ⌜ StripFits true s (j ∷ []) (lent (now v) (now src) (now t)) ⌝ }
+    ensures { λ _. ⌜ lent (now (v .exit)) (now (src .exit)) (now (t .exit)) ≡ laid (s .place) (pieceOf s (j ∷ [])) (lent (now (v .entry)) (now (src .entry)) (now (t .entry))) ⌝ }
 {
     let place = s.place;
     let next = next_vertex(place);
     let b = before(next, j);
     let a = after(next, j);
-    let last = choose(s.begun, s.last, b);
-    let at = 5 * place.vertices;
-    put_vertices(&mut v[at..], j);
+    let from = place.vertices;
+    let at = 5 * from;
+    put_vertices(&mut v[at..], &mut src[from..], j);
     let to = 3 * place.triangles;
-    put_past(&mut t[to..], last, b, a);
+    put_past(&mut t[to..], s.begun, s.last, b, a);
 }
 
 // The same where a pass writes.
-pub fn lay_joint_if(v: &mut [f32], t: &mut [Index], s: Strip, j: EndpointData, write: bool)
-    requires { ⌜ StripFits write s (j ∷ []) (lent (now v) (now t)) ⌝ }
-    ensures { λ _. ⌜ Lays write (s .place) (pieceOf s (j ∷ [])) (lent (now (v .entry)) (now (t .entry))) (lent (now (v .exit)) (now (t .exit))) ⌝ }
+pub fn lay_joint_if(
+    v: &mut [f32],
+    src: &mut [u32],
+    t: &mut [Index],
+    s: Strip,
+    j: EndpointData,
+    write: bool,
+)
+    requires { ⌜ StripFits write s (j ∷ []) (lent (now v) (now src) (now t)) ⌝ }
+    ensures { λ _. ⌜ Lays write (s .place) (pieceOf s (j ∷ [])) (lent (now (v .entry)) (now (src .entry)) (now (t .entry))) (lent (now (v .exit)) (now (src .exit)) (now (t .exit))) ⌝ }
 {
     if write {
-        lay_joint(v, t, s, j);
+        lay_joint(v, src, t, s, j);
     }
 }
 

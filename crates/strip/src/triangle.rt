@@ -3,12 +3,13 @@ use crate::section::Section;
 use endpoint::VertexId;
 use pieces::Index;
 use vertices::list::put_triangle;
+ghost use mathlib.Core.Bool.{true, cond};
 ghost use mathlib.Core.Path.{_≡_};
 ghost use Prim.Native.Nat.{_*_, _≤_};
 ghost use lib.ListN.{length};
 ghost use Rattle.lists.specs.Over.{over};
 ghost use Rattle.pieces.specs.Piece.{flatT};
-ghost use Rattle.strip.specs.Triangle.{different, triOf, between, past};
+ghost use Rattle.strip.specs.Triangle.{different, triOf, between, bothOf, past};
 
 // Whether no two of the vertices are the same.
 fn different(a: VertexId, b: VertexId, c: VertexId) -> bool
@@ -48,13 +49,38 @@ pub fn put_between(t: &mut [Index], s: Section, e: Section) -> usize
     n + m
 }
 
-// To the section before a joint, and on to the one after it. The result is the number of triangles.
-pub fn put_past(t: &mut [Index], last: Section, b: Section, a: Section) -> usize
-    requires { ⌜ 3 * length (past last b a) ≤ length (now t) ⌝ }
-    ensures { λ r. ⌜ r ≡ length (past last b a) ⌝ }
-    ensures { λ _. ⌜ now (t .exit) ≡ over (flatT (past last b a)) (now (t .entry)) ⌝ }
+// Both triangles, where none is left out.
+fn put_both(t: &mut [Index], s: Section, e: Section)
+    requires { ⌜ 6 ≤ length (now t) ⌝ }
+    ensures { λ _. ⌜ now (t .exit) ≡ over (flatT (bothOf s e)) (now (t .entry)) ⌝ }
 {
-    let n = put_between(t, last, b);
+    put_triangle(t, s.negative, s.positive, e.positive);
+    put_triangle(&mut t[3..], s.negative, e.positive, e.negative);
+}
+
+// From the last section of a run that has begun to the one before a joint, whose numbers are new: no test is needed. The result is the number
+// of triangles.
+fn put_to(t: &mut [Index], begun: bool, last: Section, b: Section) -> usize
+    requires { ⌜ 3 * length (between (cond begun last b) b) ≤ length (now t) ⌝ }
+    requires { ⌜ (begun ≡ true → between last b ≡ bothOf last b) ⌝ }
+    ensures { λ r. ⌜ r ≡ length (between (cond begun last b) b) ⌝ }
+    ensures { λ _. ⌜ now (t .exit) ≡ over (flatT (between (cond begun last b) b)) (now (t .entry)) ⌝ }
+{
+    if begun {
+        put_both(t, last, b);
+        return 2;
+    }
+    0
+}
+
+// To the section before a joint, and on to the one after it. The result is the number of triangles.
+pub fn put_past(t: &mut [Index], begun: bool, last: Section, b: Section, a: Section) -> usize
+    requires { ⌜ 3 * length (past (cond begun last b) b a) ≤ length (now t) ⌝ }
+    requires { ⌜ (begun ≡ true → between last b ≡ bothOf last b) ⌝ }
+    ensures { λ r. ⌜ r ≡ length (past (cond begun last b) b a) ⌝ }
+    ensures { λ _. ⌜ now (t .exit) ≡ over (flatT (past (cond begun last b) b a)) (now (t .entry)) ⌝ }
+{
+    let n = put_to(t, begun, last, b);
     let at = 3 * n;
     let m = put_between(&mut t[at..], b, a);
     n + m

@@ -1,4 +1,4 @@
-// One vertex and one triangle at the start of a part.
+// One vertex and one triangle at the start of the parts that are lent.
 use endpoint::VertexId;
 use pieces::Index;
 use plane::vector::Point;
@@ -6,20 +6,22 @@ ghost use mathlib.Core.Path.{_≡_};
 ghost use Prim.Native.Nat.{_≤_};
 ghost use lib.ListN.{length};
 ghost use Rattle.lists.specs.Over.{over};
-ghost use Rattle.pieces.specs.Piece.{floatsOf};
+ghost use Rattle.pieces.specs.Piece.{floatsOf, sourcesOf};
 ghost use Rattle.triangles.specs.Tri.{numbersOf};
 ghost use Rattle.vertices.specs.Vertex.{vertexOf, triangleOf};
 
-// Five floats: place, normal, advancement.
-pub fn put_vertex(v: &mut [f32], place: Point, normal: Point, a: f32)
-    requires { ⌜ 5 ≤ length (now v) ⌝ }
-    ensures { λ _. ⌜ now (v .exit) ≡ over (floatsOf (vertexOf place normal a)) (now (v .entry)) ⌝ }
+// Five floats: place, normal, advancement; and its record.
+pub fn put_vertex(v: &mut [f32], src: &mut [u32], place: Point, normal: Point, a: f32, source: u32)
+    requires { ⌜ (5 ≤ length (now v)) × (1 ≤ length (now src)) ⌝ }
+    ensures { λ _. ⌜ now (v .exit) ≡ over (floatsOf (vertexOf place normal a source)) (now (v .entry)) ⌝ }
+    ensures { λ _. ⌜ now (src .exit) ≡ over (sourcesOf (vertexOf place normal a source)) (now (src .entry)) ⌝ }
 {
     v[0] = place.x;
     v[1] = place.y;
     v[2] = normal.x;
     v[3] = normal.y;
     v[4] = a;
+    src[0] = source;
 }
 
 // Three numbers of vertices.

@@ -9,7 +9,7 @@ joint-of-requires : tie.Need-joint-of-requires
 joint-of-requires c κs = search needs
 
 lay-joint-requires : tie.Need-lay-joint-requires
-lay-joint-requires c κs = rw (c .before .before .joint-of .ensures) (rw (c .before .before .before .if1 .taken) at (c .before .before .before .before .before .before .pre))
+lay-joint-requires c κs = rw (c .before .before .before .joint-of .ensures) (rw (c .before .before .before .before .if1 .taken) at (c .before .before .before .before .before .before .before .before .pre))
 
 counts-of-requires : tie.Need-counts-of-requires
 counts-of-requires c κs = search needs
@@ -20,10 +20,14 @@ same-length c = search needs
 same-length-2 : tie.Need-same-length-2
 same-length-2 c = search needs
 
+same-length-3 : tie.Need-same-length-3
+same-length-3 c = search needs
+
 returns : tie.Need-returns
 returns c =
-    let j = c .before .before .before .before .before .before .before .before .joint-of .ensures in
-    (rw (c .counts-of .ensures, j), λ w. rw j at (c .before .before .before .before .before .lay-joint .ensures))
+    let at-lay-joint = c .before .before .before .before .before .before .before in
+    let at-joint-of = at-lay-joint .before .before .before .before in
+    (rw (c .counts-of .ensures, at-joint-of .joint-of .ensures), λ w. rw (at-joint-of .joint-of .ensures) at (at-lay-joint .lay-joint .ensures))
 
 joint-counts-requires : tie.Need-joint-counts-requires
 joint-counts-requires c κs = search needs
@@ -40,6 +44,7 @@ pass-joint-spec =
     counts-of-requires
     same-length
     same-length-2
+    same-length-3
     returns
     joint-counts-requires
     returns-2)

@@ -15,7 +15,7 @@ returns c = rw (sym (c .before .is-dropped .ensures) ∙ c .if1 .taken) (record 
 
 pass-kept-requires : tie.Need-pass-kept-requires
 unfolding visited
-pass-kept-requires c κs = rw (sym (c .before .before .before .is-dropped .ensures) ∙ c .before .before .if1 .left) at (c .before .before .before .before .before .before .before .pre)
+pass-kept-requires c κs = rw (sym (c .before .before .before .before .is-dropped .ensures) ∙ c .before .before .before .if1 .left) at (c .before .before .before .before .before .before .before .before .before .pre)
 
 same-length : tie.Need-same-length
 same-length c = search needs
@@ -23,11 +23,25 @@ same-length c = search needs
 same-length-2 : tie.Need-same-length-2
 same-length-2 c = search needs
 
+same-length-3 : tie.Need-same-length-3
+same-length-3 c = search needs
+
 returns-2 : tie.Need-returns-2
 unfolding visitOf visited
-returns-2 c = let d = c .before .before .before .before .before .before .before in rw (sym (d .before .is-dropped .ensures) ∙ d .if1 .left) (c .before .before .before .before .pass-kept .ensures)
+returns-2 c =
+    let at-pass-kept = c .before .before .before .before .before .before in
+    let at-if1 = at-pass-kept .before .before .before .before in
+    let at-is-dropped = at-if1 .before in
+    rw (sym (at-is-dropped .is-dropped .ensures) ∙ at-if1 .if1 .left) (at-pass-kept .pass-kept .ensures)
 
 pub pass-point-spec : {M : Type 1} → statement M
 pass-point-spec =
     tie.close
-    (tie.spec is-dropped-requires returns pass-kept-requires same-length same-length-2 returns-2)
+    (tie.spec
+    is-dropped-requires
+    returns
+    pass-kept-requires
+    same-length
+    same-length-2
+    same-length-3
+    returns-2)

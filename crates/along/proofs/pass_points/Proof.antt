@@ -1,6 +1,4 @@
--- `along::pass_points` meets its contract. The plan: of the joints that the points bring, the rest is to come (`Midway`), and the way to the end is the same; one
--- turn is `Turns`, and behind the last point nothing is to come. Assumes nothing.
-use Rattle.along.proofs.pass_points.Statement.{statement}
+-- `along::pass_points` meets its contract. The plan: of the joints that the points bring, the rest is to come (`Midway`), and the way to the end is the same; one turn is `Turns`, and behind the last point nothing is to come. Assumes nothing.
 use borrow.Author.Needs.{needs}
 use Prim.Native.Nat.{_-_, _≤_}
 use mathlib.Core.Path.{_≡_, refl, sym, _∙_}
@@ -14,52 +12,51 @@ use Rattle.strip.proofs.Pending.{Midway, midway-start, midway-end}
 use Rattle.along.specs.Points.{walked, passed}
 use Rattle.along.proofs.Walking.{passed-none}
 use Rattle.along.proofs.Turns.{visit-has, visit-turn}
+use Rattle.along.proofs.pass_points.Statement.{statement}
 use Rattle.along.proofs.pass_points.Tie as tie
 
 abbrev Inv-loop : tie.InvT-loop
-Inv-loop v₀ t₀ pass p s w₀ i₀ end v t w i =
+Inv-loop v₀ src₀ t₀ pass p s w₀ i₀ end v src t w i =
     let ps = endpointsOf (s .first .0) p in
-    Midway (pass .write) (w₀ .strip) (passed (s .sure) (pass .stroke) (w₀ .leg) (drop i₀ ps)) (lent v₀ t₀) (passed (s .sure) (pass .stroke) (w .leg) (drop i ps)) (w .strip) (lent v t)
+    Midway (pass .write) (w₀ .strip) (passed (s .sure) (pass .stroke) (w₀ .leg) (drop i₀ ps)) (lent v₀ src₀ t₀) (passed (s .sure) (pass .stroke) (w .leg) (drop i ps)) (w .strip) (lent v src t)
     × (walked (s .sure) (pass .stroke) (w₀ .leg) (drop i₀ ps) ≡ walked (s .sure) (pass .stroke) (w .leg) (drop i ps))
-    × (length v ≡ length v₀) × (length t ≡ length t₀)
+    × (length v ≡ length v₀) × (length src ≡ length src₀) × (length t ≡ length t₀)
 
 abbrev μ-loop : tie.MeasureT-loop
-μ-loop v₀ t₀ pass p s w₀ i₀ end v t w i = end - i
-
--- from a call back to the loop, and to the start
-abbrev to-loop : tie.After-pass-point Inv-loop μ-loop → tie.At-loop Inv-loop μ-loop
-to-loop c = c .before .before .before .before .before
-
-abbrev entry : tie.At-loop Inv-loop μ-loop → tie.Start Inv-loop μ-loop
-entry c = c .before .before .before .before
+μ-loop v₀ src₀ t₀ pass p s w₀ i₀ end v src t w i = end - i
 
 loop-holds : tie.Need-loop-holds Inv-loop μ-loop
-loop-holds c = (midway-start, refl, refl, refl)
+loop-holds c = (midway-start, refl, refl, refl, refl)
 
 endpoint-at-requires : tie.Need-endpoint-at-requires Inv-loop μ-loop
-endpoint-at-requires c κs = (omega (arith, c .loop-test .taken), entry (c .before) .pre .0)
+endpoint-at-requires c κs = (omega (arith, c .loop-test .taken), c .before .before .before .before .before .before .pre .0)
 
 pass-point-requires : tie.Need-pass-point-requires Inv-loop μ-loop
 pass-point-requires c κs =
-    let l = c .before .before .before .before in
-    let a = entry l .args in
-    rw (c .before .before .endpoint-at .ensures)
-    (visit-has (a .s .sure) (a .pass .stroke) (a .p .now) (a .s .first .0) (l .loop .i) (omega (arith, c .before .before .before .loop-test .taken)) (l .loop .w) (l .loop .inv .0) (entry l .pre .1))
+    let l = c .before .before .before .before .before .loop in
+    let a = c .before .before .before .before .before .before .before .before .before .before .args in
+    rw (c .before .before .before .endpoint-at .ensures)
+    let at-loop-test = c .before .before .before .before in
+    let start = at-loop-test .before .before .before .before .before .before in
+    (visit-has (a .s .sure) (a .pass .stroke) (a .p .now) (a .s .first .0) (l .i) (omega (arith, at-loop-test .loop-test .taken)) (l .w) (l .inv .0) (start .pre .1))
 
 add-i : tie.Need-add-i Inv-loop μ-loop
-add-i c = let p = c .before .before .before .before in omega (arith, p .before .before .before .before .loop-test .taken, entry (to-loop p) .pre .0)
+add-i c =
+    let at-loop-test = c .before .before .before .before .before .before .before .before .before .before .before in
+    let start = at-loop-test .before .before .before .before .before .before in
+    omega (arith, at-loop-test .loop-test .taken, start .pre .0)
 
 loop-less : tie.Need-loop-less Inv-loop μ-loop
-loop-less c = omega (arith, c .before .before .before .before .before .before .before .before .loop-test .taken)
+loop-less c = omega (arith, c .before .before .before .before .before .before .before .before .before .before .before .loop-test .taken)
 
 loop-again : tie.Need-loop-again Inv-loop μ-loop
 loop-again c =
-    let p = c .before .before .before .before in
-    let l = to-loop p .loop in
-    let a = entry (to-loop p) .args in
-    let f = rw (p .before .before .before .endpoint-at .ensures) at (p .pass-point .ensures) in
-    let turn = visit-turn (a .s .sure) (a .pass .stroke) (a .p .now) (a .s .first .0) (l .i) (omega (arith, p .before .before .before .before .loop-test .taken)) (l .w) (l .inv .0) f in
-    (turn .0, l .inv .1 ∙ turn .1, search (needs, l .inv .2), search (needs, l .inv .3))
+    let l = c .before .before .before .before .before .before .before .before .before .before .before .before .loop in
+    let a = c .before .before .before .before .before .before .before .before .before .before .before .before .before .before .before .before .before .args in
+    let f = rw (c .before .before .before .before .before .before .before .before .before .before .endpoint-at .ensures) at (c .before .before .before .before .before .before .pass-point .ensures) in
+    let at-loop-test = c .before .before .before .before .before .before .before .before .before .before .before in
+    let turn = visit-turn (a .s .sure) (a .pass .stroke) (a .p .now) (a .s .first .0) (l .i) (omega (arith, at-loop-test .loop-test .taken)) (l .w) (l .inv .0) f in
+    (turn .0, l .inv .1 ∙ turn .1, search (needs, l .inv .2), search (needs, l .inv .3), search (needs, l .inv .4))
 
 same-length : tie.Need-same-length Inv-loop μ-loop
 same-length c = c .before .loop .inv .2
@@ -67,11 +64,14 @@ same-length c = c .before .loop .inv .2
 same-length-2 : tie.Need-same-length-2 Inv-loop μ-loop
 same-length-2 c = c .before .loop .inv .3
 
+same-length-3 : tie.Need-same-length-3 Inv-loop μ-loop
+same-length-3 c = c .before .loop .inv .4
+
 returns : tie.Need-returns Inv-loop μ-loop
 unfolding walked
 returns c =
     let l = c .before .loop in
-    let a = entry (c .before) .args in
+    let a = c .before .before .before .before .before .before .args in
     let ps = endpointsOf (a .s .first .0) (a .p .now) in
     let done : length ps ≤ l .i = omega (arith, c .loop-test .left, points-length (a .p .now) (a .s .first .0)) in
     let none : drop (l .i) ps ≡ [] = drop-of-length-le ps done in
@@ -91,4 +91,5 @@ pass-points-spec =
     loop-again
     same-length
     same-length-2
+    same-length-3
     returns)

@@ -16,8 +16,14 @@ slice-relend-prefix-draw-runs-2 c = search needs
 slice-aggregate-draw-runs-2 : tie.Need-slice-aggregate-draw-runs-2
 slice-aggregate-draw-runs-2 c = search needs
 
+slice-relend-prefix-draw-runs-3 : tie.Need-slice-relend-prefix-draw-runs-3
+slice-relend-prefix-draw-runs-3 c = search needs
+
+slice-aggregate-draw-runs-3 : tie.Need-slice-aggregate-draw-runs-3
+slice-aggregate-draw-runs-3 c = search needs
+
 draw-runs-requires : tie.Need-draw-runs-requires
-draw-runs-requires c κs = (sound-paired _ _ (c .before .before .before .before .before .before .pre), counts-fit _ _ _ (c .before .before .before .before .before .before .pre) _)
+draw-runs-requires c κs = let s = c .before .before .before .before .before .before .before .before .pre in (sound-paired _ _ s, counts-fit _ _ _ s _)
 
 same-length : tie.Need-same-length
 same-length c = search needs
@@ -25,8 +31,11 @@ same-length c = search needs
 same-length-2 : tie.Need-same-length-2
 same-length-2 c = search needs
 
+same-length-3 : tie.Need-same-length-3
+same-length-3 c = search needs
+
 returns : tie.Need-returns
-returns c = counted _ _ _ _ _ _ (search needs) (search needs) (c .before .before .before .before .draw-runs .ensures)
+returns c = counted _ _ _ _ _ _ _ _ (search needs) (search needs) (search needs) (c .before .before .before .before .before .before .draw-runs .ensures)
 
 pub count-accepted-spec : {M : Type 1} → statement M
 count-accepted-spec =
@@ -36,7 +45,10 @@ count-accepted-spec =
     slice-aggregate-draw-runs
     slice-relend-prefix-draw-runs-2
     slice-aggregate-draw-runs-2
+    slice-relend-prefix-draw-runs-3
+    slice-aggregate-draw-runs-3
     draw-runs-requires
     same-length
     same-length-2
+    same-length-3
     returns)

@@ -16,7 +16,7 @@ enum-told : tie.Need-enum-told
 enum-told c = search needs
 
 mesh-accepted-requires : tie.Need-mesh-accepted-requires
-mesh-accepted-requires c κs = sound _ _ (ap (λ (a : Verdict). a .number) (sym (c .before .before .before .before .check-path .ensures) ∙ ap checkAnswerOf (c .before .before .enum-told .given .1)))
+mesh-accepted-requires c κs = sound _ _ (ap (λ (a : Verdict). a .number) (sym (c .before .before .before .before .before .check-path .ensures) ∙ ap checkAnswerOf (c .before .before .before .enum-told .given .1)))
 
 enum-known-r : tie.Need-enum-known-r
 enum-known-r c = search needs
@@ -27,9 +27,16 @@ same-length c = search needs
 same-length-2 : tie.Need-same-length-2
 same-length-2 c = search needs
 
+same-length-3 : tie.Need-same-length-3
+same-length-3 c = search needs
+
 returns : tie.Need-returns
 unfolding strokedOf
-returns c = rw (← c .before .before .before .before .before .before .before .before .before .check-path .ensures, c .before .before .before .before .before .before .before .enum-told .given .1) (c .before .before .before .before .mesh-accepted .ensures)
+returns c =
+    let at-mesh-accepted = c .before .before .before .before .before .before in
+    let at-enum-told = at-mesh-accepted .before .before .before .before in
+    let at-check-path = at-enum-told .before .before in
+    rw (← at-check-path .check-path .ensures, at-enum-told .enum-told .given .1) (at-mesh-accepted .mesh-accepted .ensures)
 
 returns-2 : tie.Need-returns-2
 unfolding strokedOf
@@ -45,5 +52,6 @@ mesh-stroked-spec =
     enum-known-r
     same-length
     same-length-2
+    same-length-3
     returns
     returns-2)

@@ -1,7 +1,5 @@
 -- `mesh::tessellate` meets its contract. Assumes nothing.
 use borrow.Author.Needs.{needs}
-use mathlib.Core.Path.{sym, ap, _∙_}
-use Rattle.options.specs.Options.{strokeAnswerOf}
 use Rattle.mesh.proofs.Rooms.{refused-first}
 use Rattle.mesh.specs.Mesh.{outcomeOf}
 use Rattle.mesh.proofs.tessellate.Statement.{statement}
@@ -25,9 +23,16 @@ same-length c = search needs
 same-length-2 : tie.Need-same-length-2
 same-length-2 c = search needs
 
+same-length-3 : tie.Need-same-length-3
+same-length-3 c = search needs
+
 returns : tie.Need-returns
 unfolding outcomeOf
-returns c = rw (← c .before .before .before .before .before .before .before .before .before .before .stroke-of .ensures, c .before .before .before .before .before .before .before .before .stroke .given .1) (c .before .before .before .before .mesh-stroked .ensures)
+returns c =
+    let at-mesh-stroked = c .before .before .before .before .before .before in
+    let at-stroke = at-mesh-stroked .before .before .before .before .before in
+    let at-stroke-of = at-stroke .before .before in
+    rw (← at-stroke-of .stroke-of .ensures, at-stroke .stroke .given .1) (at-mesh-stroked .mesh-stroked .ensures)
 
 returns-2 : tie.Need-returns-2
 unfolding outcomeOf
@@ -43,5 +48,6 @@ tessellate-spec =
     enum-known-r
     same-length
     same-length-2
+    same-length-3
     returns
     returns-2)

@@ -10,8 +10,10 @@ draws-cap-requires c κs = search needs
 
 lay-empty-cap-requires : tie.Need-lay-empty-cap-requires
 lay-empty-cap-requires c κs =
-    let s = c .before .before .before .before .before .before in
-    cap-fits (s .args .pass .stroke) _ _ (s .args .p) (rw (sym (c .before .before .before .draws-cap .ensures) ∙ c .before .before .if1 .taken) at (s .pre))
+    let at-if1 = c .before .before .before in
+    let at-draws-cap = at-if1 .before in
+    let at-before = at-draws-cap .before .before .before .before in
+    let s = c .before .before .before .before .before .before .before .before in (s .pre .0, cap-fits (s .args .pass .stroke) _ _ (s .args .p) (rw (sym (at-draws-cap .draws-cap .ensures) ∙ at-if1 .if1 .taken) at (s .pre .1)))
 
 same-length : tie.Need-same-length
 same-length c = search needs
@@ -19,14 +21,19 @@ same-length c = search needs
 same-length-2 : tie.Need-same-length-2
 same-length-2 c = search needs
 
+same-length-3 : tie.Need-same-length-3
+same-length-3 c = search needs
+
 returns : tie.Need-returns
 returns c =
-    let d = c .before .before .before .before .before .before .before in
-    let a = d .before .before .before .before .args in
-    rw (sym (d .before .draws-cap .ensures) ∙ d .if1 .taken) (cap-drawn (a .pass .stroke) _ _ (a .p) (c .before .before .before .before .lay-empty-cap .ensures))
+    let at-lay-empty-cap = c .before .before .before .before .before .before in
+    let at-if1 = at-lay-empty-cap .before .before .before .before in
+    let at-draws-cap = at-if1 .before in
+    let start = at-draws-cap .before .before .before .before in
+    let a = start .args in rw (sym (at-draws-cap .draws-cap .ensures) ∙ at-if1 .if1 .taken) (cap-drawn (a .pass .stroke) _ _ (a .p) (at-lay-empty-cap .lay-empty-cap .ensures))
 
 returns-2 : tie.Need-returns-2
-returns-2 c = rw (sym (c .before .draws-cap .ensures) ∙ c .if1 .left) (nothing-drawn (c .before .before .before .before .args .pass .stroke) _ _)
+returns-2 c = rw (sym (c .before .draws-cap .ensures) ∙ c .if1 .left) (nothing-drawn (c .before .before .before .before .before .args .pass .stroke) _ _)
 
 pub draw-alone-spec : {M : Type 1} → statement M
 draw-alone-spec =
@@ -36,5 +43,6 @@ draw-alone-spec =
     lay-empty-cap-requires
     same-length
     same-length-2
+    same-length-3
     returns
     returns-2)

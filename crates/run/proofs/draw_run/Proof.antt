@@ -1,5 +1,4 @@
--- `run::draw_run` meets its contract. The plan: a closed run's shape is that of the part that `kept_end` leaves, told once (`ended`); an open run's is that of all
--- its points; `draw_kept` draws either. Assumes nothing.
+-- `run::draw_run` meets its contract. The plan: a closed run's shape is that of the part that `kept_end` leaves, told once (`ended`); an open run's is that of all its points; `draw_kept` draws either. Assumes nothing.
 use borrow.Author.Needs.{needs}
 use native.Mathlib.Omega.{arith}
 use Prim.Native.Nat.{_*_, _/_, _≤_}
@@ -16,7 +15,7 @@ use Rattle.run.proofs.draw_run.Statement.{statement}
 use Rattle.run.proofs.draw_run.Tie as tie
 
 abbrev entry : tie.Else1 → tie.Start
-entry c = c .before .before .before .before .before
+entry c = c .before .before .before .before .before .before
 
 -- what is left of a closed run's points is a part of them
 part : (c : tie.After-kept-end) → 2 * c .kept-end .result ≤ length (entry (c .before .before) .args .p .now)
@@ -28,22 +27,25 @@ ended c = let e = c .before .before in closed-shape (entry e .args .pass .stroke
 
 returns : tie.Need-returns
 returns c =
-    let a = c .before .before .before .before .before .before .args in
+    let a = c .before .before .before .before .before .before .before .args in
     draws-as (a .pass) refl (no-points (a .pass .stroke) _ _ _ (c .before .if1 .taken)) (nothing-drawn (a .pass .stroke) _ _)
 
 kept-end-requires : tie.Need-kept-end-requires
-kept-end-requires c κs = omega (arith, c .before .if1 .left, entry (c .before) .pre .0)
+kept-end-requires c κs = omega (arith, c .before .if1 .left, c .before .before .before .before .before .before .before .pre .0)
 
 mul-to : tie.Need-mul-to
-mul-to c = omega (arith, c .kept-end .ensures .within, entry (c .before .before) .pre .0)
+mul-to c = omega (arith, c .kept-end .ensures .within, c .before .before .before .before .before .before .before .before .pre .0)
 
 slice-aggregate-draw-kept : tie.Need-slice-aggregate-draw-kept
-slice-aggregate-draw-kept c = let k = c .before .before .before in sym (length-take-le (2 * k .kept-end .result) (entry (k .before .before) .args .p .now) (part k))
+slice-aggregate-draw-kept c =
+    let at-kept-end = c .before .before .before .before in
+    let start = at-kept-end .before .before .before .before .before .before .before .before in
+    sym (length-take-le (2 * at-kept-end .kept-end .result) (start .args .p .now) (part (c .before .before .before .before)))
 
 draw-kept-requires : tie.Need-draw-kept-requires
 draw-kept-requires c κs =
-    let k = c .before .before .before in
-    let s = entry (k .before .before) in
+    let k = c .before .before .before .before in
+    let s = c .before .before .before .before .before .before .before .before .before .before .before .before in
     let l = length-take-le (2 * k .kept-end .result) (s .args .p .now) (part k) in
     (omega (arith, l, k .kept-end .ensures .least, s .pre .0), fits-as (s .args .pass) refl (ended k) (s .pre .1))
 
@@ -53,24 +55,36 @@ same-length c = search needs
 same-length-2 : tie.Need-same-length-2
 same-length-2 c = search needs
 
+same-length-3 : tie.Need-same-length-3
+same-length-3 c = search needs
+
 returns-2 : tie.Need-returns-2
-returns-2 c = let k = c .before .before .before .before .before .before .before .before in draws-as (entry (k .before .before) .args .pass) refl (ended k) (c .before .before .before .before .draw-kept .ensures)
+returns-2 c =
+    let at-draw-kept = c .before .before .before .before .before .before in
+    let at-before = at-draw-kept .before .before .before .before .before in
+    let start = at-before .before .before .before .before .before .before .before .before in
+    draws-as (start .args .pass) refl (ended (c .before .before .before .before .before .before .before .before .before .before .before)) (at-draw-kept .draw-kept .ensures)
 
 draw-kept-requires-2 : tie.Need-draw-kept-requires-2
 draw-kept-requires-2 c κs =
-    let s = entry (c .before .before .before) in
-    (omega (arith, c .before .before .before .if1 .left, s .pre .0), fits-as (s .args .pass) refl (open-shape (s .args .pass .stroke) _ _ (c .before .before .if2 .left) refl) (s .pre .1))
-
-same-length-3 : tie.Need-same-length-3
-same-length-3 c = search needs
+    let s = c .before .before .before .before .before .before .before .before .before .before in
+    (omega (arith, c .before .before .before .before .if1 .left, s .pre .0), fits-as (s .args .pass) refl (open-shape (s .args .pass .stroke) _ _ (c .before .before .before .if2 .left) refl) (s .pre .1))
 
 same-length-4 : tie.Need-same-length-4
 same-length-4 c = search needs
 
+same-length-5 : tie.Need-same-length-5
+same-length-5 c = search needs
+
+same-length-6 : tie.Need-same-length-6
+same-length-6 c = search needs
+
 returns-3 : tie.Need-returns-3
 returns-3 c =
-    let a = entry (c .before .before .before .before .before .before .before .before) .args in
-    draws-as (a .pass) refl (open-shape (a .pass .stroke) _ _ (c .before .before .before .before .before .before .before .if2 .left) refl) (c .before .before .before .before .draw-kept2 .ensures)
+    let a = c .before .before .before .before .before .before .before .before .before .before .before .before .before .before .before .before .before .args in
+    let at-draw-kept2 = c .before .before .before .before .before .before in
+    let at-if2 = at-draw-kept2 .before .before .before .before in
+    draws-as (a .pass) refl (open-shape (a .pass .stroke) _ _ (at-if2 .if2 .left) refl) (at-draw-kept2 .draw-kept2 .ensures)
 
 pub draw-run-spec : {M : Type 1} → statement M
 draw-run-spec =
@@ -83,8 +97,10 @@ draw-run-spec =
     draw-kept-requires
     same-length
     same-length-2
+    same-length-3
     returns-2
     draw-kept-requires-2
-    same-length-3
     same-length-4
+    same-length-5
+    same-length-6
     returns-3)

@@ -8,8 +8,9 @@ use Rattle.run.proofs.lay_empty_cap.Tie as tie
 
 tessellate-empty-square-cap-requires : tie.Need-tessellate-empty-square-cap-requires
 tessellate-empty-square-cap-requires c κs =
-    let s = c .before .before .before .before .before .before in
-    cap-room (s .args .pass .stroke) false _ (s .args .p) (rw (c .before .before .if1 .taken) at (s .pre))
+    let s = c .before .before .before .before .before .before .before .before in
+    let room = cap-room (s .args .pass .stroke) false _ (s .args .p) (rw (c .before .before .before .if1 .taken) at (s .pre .1)) in
+    (room .0, (room .1, s .pre .0))
 
 same-length : tie.Need-same-length
 same-length c = search needs
@@ -17,10 +18,14 @@ same-length c = search needs
 same-length-2 : tie.Need-same-length-2
 same-length-2 c = search needs
 
+same-length-3 : tie.Need-same-length-3
+same-length-3 c = search needs
+
 returns : tie.Need-returns
 returns c =
-    let a = c .before .before .before .before .before .before .before .before .before .before .before .args in
-    λ w. cap-laid (a .pass .stroke) false _ (a .p) _ _ (c .before .before .before .before .tessellate-empty-square-cap .ensures)
+    let a = c .before .before .before .before .before .before .before .before .before .before .before .before .before .before .before .args in
+    let e = c .before .before .before .before .before .before .tessellate-empty-square-cap .ensures in
+    λ w. cap-laid (a .pass .stroke) false _ (a .p) _ _ _ (e .0) (e .1 .0) (e .1 .1)
 
 returns-2 : tie.Need-returns-2
 returns-2 c = λ w. absurd (true≢false (sym w ∙ c .if1 .left))
@@ -28,4 +33,10 @@ returns-2 c = λ w. absurd (true≢false (sym w ∙ c .if1 .left))
 pub lay-empty-cap-spec : {M : Type 1} → statement M
 lay-empty-cap-spec =
     tie.close
-    (tie.spec tessellate-empty-square-cap-requires same-length same-length-2 returns returns-2)
+    (tie.spec
+    tessellate-empty-square-cap-requires
+    same-length
+    same-length-2
+    same-length-3
+    returns
+    returns-2)

@@ -11,7 +11,7 @@ start-requires : tie.Need-start-requires
 start-requires c κs = search needs
 
 pass-cap-requires : tie.Need-pass-cap-requires
-pass-cap-requires c κs = rw (c .before .before .start .ensures, c .before .before .before .start-cap .ensures) (c .before .before .before .before .before .before .pre)
+pass-cap-requires c κs = rw (c .before .before .before .start .ensures, c .before .before .before .before .start-cap .ensures) (c .before .before .before .before .before .before .before .before .pre)
 
 same-length : tie.Need-same-length
 same-length c = search needs
@@ -19,8 +19,15 @@ same-length c = search needs
 same-length-2 : tie.Need-same-length-2
 same-length-2 c = search needs
 
+same-length-3 : tie.Need-same-length-3
+same-length-3 c = search needs
+
 returns : tie.Need-returns
-returns c = let s = c .before .before .before .before .before .before .before in record { leg = refl; puts = rw (s .start .ensures, s .before .start-cap .ensures) at (c .before .before .before .before .pass-cap .ensures) }
+returns c =
+    let at-pass-cap = c .before .before .before .before .before .before in
+    let at-start = at-pass-cap .before .before .before .before in
+    let at-start-cap = at-start .before in
+    record { leg = refl; puts = rw (at-start .start .ensures, at-start-cap .start-cap .ensures) at (at-pass-cap .pass-cap .ensures) }
 
 pub begin-spec : {M : Type 1} → statement M
 begin-spec =
@@ -31,4 +38,5 @@ begin-spec =
     pass-cap-requires
     same-length
     same-length-2
+    same-length-3
     returns)

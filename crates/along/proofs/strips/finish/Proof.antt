@@ -7,7 +7,7 @@ end-cap-requires : tie.Need-end-cap-requires
 end-cap-requires c κs = search needs
 
 pass-cap-requires : tie.Need-pass-cap-requires
-pass-cap-requires c κs = rw (c .before .before .end-cap .ensures) (c .before .before .before .before .before .pre)
+pass-cap-requires c κs = rw (c .before .before .before .end-cap .ensures) (c .before .before .before .before .before .before .before .pre)
 
 same-length : tie.Need-same-length
 same-length c = search needs
@@ -15,9 +15,19 @@ same-length c = search needs
 same-length-2 : tie.Need-same-length-2
 same-length-2 c = search needs
 
+same-length-3 : tie.Need-same-length-3
+same-length-3 c = search needs
+
 returns : tie.Need-returns
-returns c = rw (c .before .before .before .before .before .before .before .end-cap .ensures) at (c .before .before .before .before .pass-cap .ensures)
+returns c = rw (c .before .before .before .before .before .before .before .before .before .before .end-cap .ensures) at (c .before .before .before .before .before .before .pass-cap .ensures)
 
 pub finish-spec : {M : Type 1} → statement M
 finish-spec =
-    tie.close (tie.spec end-cap-requires pass-cap-requires same-length same-length-2 returns)
+    tie.close
+    (tie.spec
+    end-cap-requires
+    pass-cap-requires
+    same-length
+    same-length-2
+    same-length-3
+    returns)

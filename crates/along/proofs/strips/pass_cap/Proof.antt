@@ -4,12 +4,8 @@ use Rattle.strip.proofs.Counting.{steps-one, puts-one}
 use Rattle.along.proofs.strips.pass_cap.Statement.{statement}
 use Rattle.along.proofs.strips.pass_cap.Tie as tie
 
--- from a call back to the start
-abbrev entry : tie.After-positive-count → tie.Start
-entry c = c .before .before .before .before .before .before .before .before .before .before
-
 lay-joint-if-requires : tie.Need-lay-joint-if-requires
-lay-joint-if-requires c κs = c .before .before .before .before .pre
+lay-joint-if-requires c κs = c .before .before .before .before .before .before .pre
 
 positive-count-requires : tie.Need-positive-count-requires
 positive-count-requires c κs = search needs
@@ -18,7 +14,7 @@ negative-count-requires : tie.Need-negative-count-requires
 negative-count-requires c κs = search needs
 
 step-requires : tie.Need-step-requires
-step-requires c κs = steps-one (entry (c .before) .pre) _ _ (c .before .positive-count .ensures) (c .negative-count .ensures)
+step-requires c κs = steps-one (c .before .before .before .before .before .before .before .before .before .before .before .before .before .before .before .pre) _ _ (c .before .positive-count .ensures) (c .negative-count .ensures)
 
 same-length : tie.Need-same-length
 same-length c = search needs
@@ -26,10 +22,16 @@ same-length c = search needs
 same-length-2 : tie.Need-same-length-2
 same-length-2 c = search needs
 
+same-length-3 : tie.Need-same-length-3
+same-length-3 c = search needs
+
 returns : tie.Need-returns
 returns c =
-    let p = c .before .before in
-    puts-one (entry p .pre) _ _ (p .positive-count .ensures) (c .before .negative-count .ensures) (c .step .ensures) (p .before .before .before .before .before .lay-joint-if .ensures)
+    let at-negative-count = c .before in
+    let at-positive-count = at-negative-count .before in
+    let at-lay-joint-if = at-positive-count .before .before .before .before .before .before .before in
+    let start = at-lay-joint-if .before .before .before .before .before .before .before in
+    puts-one (start .pre) _ _ (at-positive-count .positive-count .ensures) (at-negative-count .negative-count .ensures) (c .step .ensures) (at-lay-joint-if .lay-joint-if .ensures)
 
 pub pass-cap-spec : {M : Type 1} → statement M
 pass-cap-spec =
@@ -41,4 +43,5 @@ pass-cap-spec =
     step-requires
     same-length
     same-length-2
+    same-length-3
     returns)

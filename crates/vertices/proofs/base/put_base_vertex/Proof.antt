@@ -1,6 +1,6 @@
 -- `vertices::base::put_base_vertex` meets its contract. Assumes nothing.
-use Rattle.vertices.specs.Base.{baseVertexOf}
 use borrow.Author.Needs.{needs}
+use Rattle.vertices.specs.Base.{baseVertexOf}
 use Rattle.vertices.proofs.base.put_base_vertex.Statement.{statement}
 use Rattle.vertices.proofs.base.put_base_vertex.Tie as tie
 
@@ -16,17 +16,28 @@ times-requires c κs = search needs
 plus-requires : tie.Need-plus-requires
 plus-requires c κs = search needs
 
+source-of-requires : tie.Need-source-of-requires
+source-of-requires c κs = search needs
+
 put-vertex-requires : tie.Need-put-vertex-requires
 put-vertex-requires c κs = search needs
 
 same-length : tie.Need-same-length
 same-length c = search needs
 
+same-length-2 : tie.Need-same-length-2
+same-length-2 c = search needs
+
 returns : tie.Need-returns
 unfolding baseVertexOf
 returns c =
-    let d = c .before .before in
-    rw (d .put-vertex .ensures, d .before .before .plus .ensures, d .before .before .before .times .ensures, d .before .before .before .before .divided .ensures, d .before .before .before .before .before .minus .ensures)
+    let w = c .before .before .before .before .put-vertex .ensures in
+    let at-source-of = c .before .before .before .before .before .before .before in
+    let at-plus = at-source-of .before in
+    let at-times = at-plus .before in
+    let at-divided = at-times .before in
+    let at-minus = at-divided .before in
+    (rw (w .0, at-source-of .source-of .ensures, at-plus .plus .ensures, at-times .times .ensures, at-divided .divided .ensures, at-minus .minus .ensures), rw (w .1, at-source-of .source-of .ensures, at-plus .plus .ensures, at-times .times .ensures, at-divided .divided .ensures, at-minus .minus .ensures))
 
 pub put-base-vertex-spec : {M : Type 1} → statement M
 put-base-vertex-spec =
@@ -36,6 +47,8 @@ put-base-vertex-spec =
     divided-requires
     times-requires
     plus-requires
+    source-of-requires
     put-vertex-requires
     same-length
+    same-length-2
     returns)

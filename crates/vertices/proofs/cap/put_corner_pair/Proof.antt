@@ -1,11 +1,11 @@
 -- `vertices::cap::put_corner_pair` meets its contract. Assumes nothing.
+use borrow.Author.Needs.{needs}
 use mathlib.Core.Path.{refl}
 use native.Mathlib.Nat.{le-trans}
 use lib.Dec.{lit≤}
 use Rattle.lists.specs.Over.{flat}
 use Rattle.lists.proofs.Parts.{behind}
 use Rattle.vertices.specs.Cap.{capPairOf}
-use borrow.Author.Needs.{needs}
 use Rattle.vertices.proofs.cap.put_corner_pair.Statement.{statement}
 use Rattle.vertices.proofs.cap.put_corner_pair.Tie as tie
 
@@ -21,18 +21,31 @@ part-put-corner-start c = search needs
 part-put-corner-end : tie.Need-part-put-corner-end
 part-put-corner-end c = search needs
 
+sub-put-corner-2 : tie.Need-sub-put-corner-2
+sub-put-corner-2 c = search needs
+
+part-put-corner-start-2 : tie.Need-part-put-corner-start-2
+part-put-corner-start-2 c = search needs
+
+part-put-corner-end-2 : tie.Need-part-put-corner-end-2
+part-put-corner-end-2 c = search needs
+
 put-corner-requires-2 : tie.Need-put-corner-requires-2
 put-corner-requires-2 c κs = search needs
 
 same-length : tie.Need-same-length
 same-length c = search needs
 
+same-length-2 : tie.Need-same-length-2
+same-length-2 c = search needs
+
 returns : tie.Need-returns
 unfolding capPairOf flat
 returns c =
-    let c2 = c .before .before in
-    let c1 = c2 .before .before .before .before in
-    behind _ _ _ _ _ 5 refl (le-trans (lit≤ tt) (c1 .before .before .before .pre)) (c1 .put-corner .ensures) (c2 .put-corner2 .ensures)
+    let room = c .before .before .before .before .before .before .before .before .before .before .before .before .before .before .before .before .pre in
+    let one = c .before .before .before .before .before .before .before .before .before .before .before .put-corner .ensures in
+    let two = c .before .before .before .before .put-corner2 .ensures in
+    (behind _ _ _ _ _ 5 refl (le-trans (lit≤ tt) (room .0)) (one .0) (two .0), behind _ _ _ _ _ 1 refl (le-trans (lit≤ tt) (room .1)) (one .1) (two .1))
 
 pub put-corner-pair-spec : {M : Type 1} → statement M
 put-corner-pair-spec =
@@ -42,6 +55,10 @@ put-corner-pair-spec =
     sub-put-corner
     part-put-corner-start
     part-put-corner-end
+    sub-put-corner-2
+    part-put-corner-start-2
+    part-put-corner-end-2
     put-corner-requires-2
     same-length
+    same-length-2
     returns)

@@ -1,13 +1,11 @@
--- `vertices::cap::tessellate_empty_square_cap` meets its contract. The plan: the four corners are `put_corners`; the two triangles, of numbers counted from the first,
--- stand one behind the other. Assumes nothing.
+-- `vertices::cap::tessellate_empty_square_cap` meets its contract. Assumes nothing.
+use borrow.Author.Needs.{needs}
 use mathlib.Core.Path.{refl}
 use native.Mathlib.Nat.{le-trans}
-use native.Mathlib.Omega.{arith}
 use lib.Dec.{lit≤}
 use Rattle.lists.specs.Over.{flat}
 use Rattle.lists.proofs.Parts.{behind}
 use Rattle.vertices.specs.Cap.{capTrianglesOf}
-use borrow.Author.Needs.{needs}
 use Rattle.vertices.proofs.cap.tessellate_empty_square_cap.Statement.{statement}
 use Rattle.vertices.proofs.cap.tessellate_empty_square_cap.Tie as tie
 
@@ -44,17 +42,20 @@ same-length c = search needs
 same-length-2 : tie.Need-same-length-2
 same-length-2 c = search needs
 
+same-length-3 : tie.Need-same-length-3
+same-length-3 c = search needs
+
 returns : tie.Need-returns
 unfolding capTrianglesOf flat
 returns c =
-    let t2 = c .before .before in
-    let t1 = t2 .before .before .before .before .before in
-    let d = t1 .before .before .before in
-    let corners = d .before .before .before in
-    let start = corners .before .before .before .before in
-    let one = rw (t1 .before .vertex-after2 .ensures, d .vertex-after .ensures) at (t1 .put-triangle .ensures) in
-    let two = rw (t2 .before .vertex-after3 .ensures, d .vertex-after .ensures) at (t2 .put-triangle2 .ensures) in
-    (corners .put-corners .ensures, behind _ _ _ _ _ 3 refl (le-trans (lit≤ tt) (start .pre .1)) one two)
+    let at-put-triangle = c .before .before .before .before .before .before .before in
+    let at-vertex-after2 = at-put-triangle .before in
+    let at-vertex-after = at-vertex-after2 .before .before in
+    let one = rw (at-vertex-after2 .vertex-after2 .ensures, at-vertex-after .vertex-after .ensures) at (at-put-triangle .put-triangle .ensures) in
+    let two = rw (c .before .before .before .vertex-after3 .ensures, c .before .before .before .before .before .before .before .before .before .before .vertex-after .ensures) at (c .before .before .put-triangle2 .ensures) in
+    let at-put-corners = c .before .before .before .before .before .before .before .before .before .before .before .before .before .before .before in
+    let start = at-put-corners .before .before .before .before .before .before in
+    (at-put-corners .put-corners .ensures .0, (at-put-corners .put-corners .ensures .1, behind _ _ _ _ _ 3 refl (le-trans (lit≤ tt) (start .pre .0 .2)) one two))
 
 pub tessellate-empty-square-cap-spec : {M : Type 1} → statement M
 tessellate-empty-square-cap-spec =
@@ -71,4 +72,5 @@ tessellate-empty-square-cap-spec =
     put-triangle-requires-2
     same-length
     same-length-2
+    same-length-3
     returns)

@@ -1,7 +1,0 @@
--- Every element of a list has a property. Assumes nothing.
-use mathlib.Core.List.{List, [], _∷_}
-
-module _ {A : Type 0} (P : A → Type 0) where
-  abbrev pub All : List A → Type 0
-  All [] = Unit {0}
-  All (x ∷ xs) = P x × All xs
