@@ -1,4 +1,4 @@
-// `WIDTH LIMIT JOIN CAP MERGE VERTEXLEN TRIANGLELEN`: the words of a line before its path.
+// `WIDTH LIMIT JOIN CAP MERGE VERTEXLEN SOURCELEN TRIANGLELEN`: the words of a line before its path.
 use lines::floats::read;
 use lines::numbers::read_up_to;
 use lines::words::Place;
@@ -8,6 +8,8 @@ ghost use Prim.Native.Nat.{_≤_};
 // The longest lists that a line may ask for.
 pub const VERTEX_ROOM: usize = 81920;
 
+pub const SOURCE_ROOM: usize = 49152;
+
 pub const TRIANGLE_ROOM: usize = 49152;
 
 // What stood there, and the place after it: Lost where a word was out of form.
@@ -15,6 +17,7 @@ pub struct Front {
     pub options: Options,
     // The lengths of the lists to lend.
     pub floats: usize,
+    pub sources: usize,
     pub numbers: usize,
     pub rest: Place,
 }
@@ -25,18 +28,21 @@ struct OptionsRead {
 }
 
 pub fn read_front(line: &[u8], place: Place) -> Front
-    ensures { λ r. ⌜ (r .floats ≤ 81920) × (r .numbers ≤ 49152) ⌝ }
+    ensures { λ r. ⌜ (r .floats ≤ 81920) × (r .sources ≤ 49152) × (r .numbers ≤ 49152) ⌝ }
 {
     let o = read_options(line, place);
     let options = o.options;
     let after_options = o.rest;
     let v = read_up_to(line, after_options, VERTEX_ROOM as u64);
     let after_v = v.rest;
-    let t = read_up_to(line, after_v, TRIANGLE_ROOM as u64);
+    let s = read_up_to(line, after_v, SOURCE_ROOM as u64);
+    let after_s = s.rest;
+    let t = read_up_to(line, after_s, TRIANGLE_ROOM as u64);
     let rest = t.rest;
     Front {
         options,
         floats: v.value as usize,
+        sources: s.value as usize,
         numbers: t.value as usize,
         rest,
     }

@@ -40,9 +40,16 @@ pub fn float_answer(
     line_end(out, valued)
 }
 
-// Prints the two lists of a mesh, and ends the line.
-pub fn mesh_lists(out: &mut Buffer, p: Printed, vertices: &[f32], triangles: &[u32]) -> Printed {
+// Prints the lists of a mesh, and ends the line.
+pub fn mesh_lists(
+    out: &mut Buffer,
+    p: Printed,
+    vertices: &[f32],
+    sources: &[u32],
+    triangles: &[u32],
+) -> Printed {
     let with_vertices = float_list(out, p, vertices);
-    let with_triangles = number_list(out, with_vertices, triangles);
+    let with_sources = number_list(out, with_vertices, sources);
+    let with_triangles = number_list(out, with_sources, triangles);
     line_end(out, with_triangles)
 }
