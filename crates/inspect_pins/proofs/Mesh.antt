@@ -63,7 +63,7 @@ run-by-run o base (r ∷ rs) = (run-attached o base r, run-by-run o (base + shap
 
 -- ---- the whole mesh: a path that earns none of refusals 1 to 4, in lists with room
 module _ (verbs : List ℕ) (coords : List Float) (options : Options) (o : Stroke) (e : EarnsNone verbs coords options o) (l : Lists)
-    (h : 5 * meshCount o (runsOf verbs coords) ≤ length (l .vertices)) (g : 3 * length (meshTriangles o 0 (runsOf verbs coords)) ≤ length (l .triangles))
+    (h : 5 * meshCount o (runsOf verbs coords) ≤ length (l .vertices)) (k : meshCount o (runsOf verbs coords) ≤ length (l .sources)) (g : 3 * length (meshTriangles o 0 (runsOf verbs coords)) ≤ length (l .triangles))
   where
     abbrev rs : List (Run Endpoint)
     rs = runsOf verbs coords
@@ -77,7 +77,7 @@ module _ (verbs : List ℕ) (coords : List Float) (options : Options) (o : Strok
     -- what a question is asked of: the counts, and the triangles of all runs
     asked : (question : ℕ → List ℕ → Verdict) → question (out .answer .vertices) (meshNumbers out) ≡ question (meshCount o rs) (flatT (together (runTriangles o 0 rs)))
     asked question =
-        let w = demand-3 verbs coords options o e l .rooms .enough h g in
+        let w = demand-3 verbs coords options o e l .rooms .enough h k g in
         rw (w .answer) (ap (question (meshCount o rs)) (w .triangles ∙ ap flatT (triangles-together o 0 rs)))
 
     -- "Prove that every mesh we write passes."

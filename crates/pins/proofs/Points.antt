@@ -105,10 +105,10 @@ hasBits xs i b = eqb (toBits binary32 (getD xs i nan)) b
 
 says : Case → Bool
 says (mesh p vs cs nv nt number place n m) =
-    let a = outcomeOf vs (map f32 cs) (optionsOf p) (lent (replicate (5 * nv) (f32 0)) (replicate (3 * nt) 0)) .answer in
+    let a = outcomeOf vs (map f32 cs) (optionsOf p) (lent (replicate (5 * nv) (f32 0)) (replicate nv 0) (replicate (3 * nt) 0)) .answer in
     eqb (a .number) number && eqb (a .place) place && (eqb (a .vertices) n && eqb (a .triangles) m)
 says (stands p vs cs n m i x y) =
-    let o = outcomeOf vs (map f32 cs) (optionsOf p) (lent (replicate (5 * n) (f32 0)) (replicate (3 * m) 0)) in
+    let o = outcomeOf vs (map f32 cs) (optionsOf p) (lent (replicate (5 * n) (f32 0)) (replicate n 0) (replicate (3 * m) 0)) in
     eqb (o .answer .number) 0 && (hasBits (o .lists .vertices) (5 * i) x && hasBits (o .lists .vertices) (5 * i + 1) y)
 says (keeps r cs n) = eqb (length (keptPoints (preparedOf (optionsOf (merging r)) .near) false (endpointsOf 0 (map f32 cs)))) n
 says (window cs a b c) = let xs = after [] cs in reads xs 0 a && (reads xs 1 b && reads xs 2 c)
@@ -208,7 +208,7 @@ worked = refl
 
 -- the program's example, `M0 1L2 1`: its four vertices, with their normals and advancements, and its triangles
 pub line-example : Outcome
-line-example = outcomeOf (begin ∷ line ∷ endOpen ∷ []) (map f32 (0 ∷ 0x3f800000 ∷ 0x40000000 ∷ 0x3f800000 ∷ [])) (optionsOf (pen 0 0)) (lent (replicate 20 (f32 0)) (replicate 7 9))
+line-example = outcomeOf (begin ∷ line ∷ endOpen ∷ []) (map f32 (0 ∷ 0x3f800000 ∷ 0x40000000 ∷ 0x3f800000 ∷ [])) (optionsOf (pen 0 0)) (lent (replicate 20 (f32 0)) (replicate 5 9) (replicate 7 9))
 
 pub written : map (toBits binary32) (line-example .lists .vertices) ≡ 0 ∷ 0x40000000 ∷ 0 ∷ 0x3f800000 ∷ 0
     ∷ 0 ∷ 0 ∷ 0 ∷ 0xbf800000 ∷ 0
@@ -216,6 +216,11 @@ pub written : map (toBits binary32) (line-example .lists .vertices) ≡ 0 ∷ 0x
     ∷ 0x40000000 ∷ 0 ∷ 0 ∷ 0xbf800000 ∷ 0x40000000 ∷ []
 unfolding line-example arithmetic vectors joins vertices paths runs meshes
 written = refl
+
+-- where they came from; the fifth record was not asked for, and is left as it was
+pub sourced : line-example .lists .sources ≡ 0 ∷ 1 ∷ 2 ∷ 3 ∷ 9 ∷ []
+unfolding line-example arithmetic vectors joins vertices paths runs meshes
+sourced = refl
 
 -- the seventh number was not asked for, and is left as it was
 pub faced : line-example .lists .triangles ≡ 1 ∷ 0 ∷ 2 ∷ 1 ∷ 2 ∷ 3 ∷ 9 ∷ []

@@ -41,14 +41,15 @@ use Rattle.pins.proofs.Cases.{one-direction, one-stroked, one-checked, 
 abbrev pub Same : {A B : Type 0} → (A → B) → A → A → Type 0
 Same numbers r s = (numbers r ≡ numbers s) × (r ≡ s)
 
--- ---- mesh::tessellate: the answer and both lists
-pub mesh-one : (verbs : List ℕ) (coords : List Float) (options : Options) (l : Lists) (r s : Meshed) (v1 v2 : List Float) (t1 t2 : List ℕ) → answered r v1 t1 ≡ outcomeOf verbs coords options l
-    → answered s v2 t2 ≡ outcomeOf verbs coords options l
-    → Same meshAnswerOf r s × (v1 ≡ v2) × (t1 ≡ t2)
-mesh-one verbs coords options l r s v1 v2 t1 t2 h k =
+-- ---- mesh::tessellate: the answer and the three lists
+pub mesh-one : (verbs : List ℕ) (coords : List Float) (options : Options) (l : Lists) (r s : Meshed) (v1 v2 : List Float) (s1 s2 t1 t2 : List ℕ)
+    → answered r v1 s1 t1 ≡ outcomeOf verbs coords options l
+    → answered s v2 s2 t2 ≡ outcomeOf verbs coords options l
+    → Same meshAnswerOf r s × (v1 ≡ v2) × (s1 ≡ s2) × (t1 ≡ t2)
+mesh-one verbs coords options l r s v1 v2 s1 s2 t1 t2 h k =
     let e = h ∙ sym k in
     let n = ap (λ (o : Outcome). o .answer) e in
-    ((n, one-meshed r s n), ap (λ (o : Outcome). o .lists .vertices) e, ap (λ (o : Outcome). o .lists .triangles) e)
+    ((n, one-meshed r s n), ap (λ (o : Outcome). o .lists .vertices) e, ap (λ (o : Outcome). o .lists .sources) e, ap (λ (o : Outcome). o .lists .triangles) e)
 
 -- ---- reader::read: the answer and both lists
 pub read-one : (text verbs : List ℕ) (coords : List Float) (r s : Reading) (v1 v2 : List ℕ) (c1 c2 : List Float)

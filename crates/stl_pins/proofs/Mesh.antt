@@ -20,10 +20,10 @@ use Rattle.stl_pins.proofs.Places.{places-held, mesh-held}
 
 -- a path that earns none of refusals 1 to 4, in lists with room
 module _ (verbs : List ℕ) (coords : List Float) (options : Options) (o : Stroke) (e : EarnsNone verbs coords options o) (l : Lists)
-    (h : 5 * meshCount o (runsOf verbs coords) ≤ length (l .vertices)) (g : 3 * length (meshTriangles o 0 (runsOf verbs coords)) ≤ length (l .triangles))
+    (h : 5 * meshCount o (runsOf verbs coords) ≤ length (l .vertices)) (k : meshCount o (runsOf verbs coords) ≤ length (l .sources)) (g : 3 * length (meshTriangles o 0 (runsOf verbs coords)) ≤ length (l .triangles))
   where
     floats-are : meshFloats (outcomeOf verbs coords options l) ≡ flatV (meshVertices o (runsOf verbs coords))
-    floats-are = let w = demand-3 verbs coords options o e l .rooms .enough h g in rw (w .answer) (w .vertices)
+    floats-are = let w = demand-3 verbs coords options o e l .rooms .enough h k g in rw (w .answer) (w .vertices)
 
     pub mesh-returns : (b : List ℕ) → let out = outcomeOf verbs coords options l in
         writeOf (meshFloats out) (meshNumbers out) b .answer .number ≡ numberOf accepted → Returns (meshFloats out) (meshNumbers out) b

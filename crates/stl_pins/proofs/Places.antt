@@ -4,21 +4,22 @@ use mathlib.Core.Path.{_≡_, sym, subst}
 use mathlib.Core.List.{List, [], _∷_, _++_}
 use native.Mathlib.Omega.{arith}
 use lib.Dec.{T}
-use lib.Ieee.{Float, nan, binary32, fits, neg}
+use lib.Ieee.{Float, nan, binary32, fits}
 use lib.Ieee.Fits.{add-fits, nan-fits}
 use lib.ListN.{getD}
 use Rattle.lists.specs.Over.{flat}
 use Rattle.plane.specs.F32.{f32}
 use Rattle.plane.specs.Vector.{plusOf}
-use Rattle.plane.specs.declared.vector.Point.{Point}
 use Rattle.endpoint.specs.declared.Endpoint.{Endpoint}
 use Rattle.endpoint.specs.declared.EndpointData.{EndpointData}
+use Rattle.endpoint.specs.declared.Side.{Side}
+use Rattle.endpoint.specs.declared.Side.the-variants.{Positive, Negative}
 use Rattle.endpoint.specs.declared.SidePoints.{SidePoints}
 use Rattle.endpoint.specs.declared.SidePoints.the-variants.{Single, Pair}
 use Rattle.pieces.specs.Piece.{Vertex, flatV}
 use Rattle.path.specs.Runs.{Run}
 use Rattle.options.specs.declared.Stroke.{Stroke}
-use Rattle.vertices.specs.Base.{baseVertexOf, sideVerticesOf}
+use Rattle.vertices.specs.Base.{baseVertexOf, sideVerticesOf, baseVerticesOf}
 use Rattle.vertices.specs.Cap.{capVertexOf, capPairOf, capVerticesOf}
 use Rattle.vertices.specs.Vertex.{vertexOf}
 use Rattle.strip.specs.Joint.{jointVerticesOf, verticesOf}
@@ -49,35 +50,35 @@ places-held (v ∷ vs) (p, h) (suc i) =
     (subst (λ (n : ℕ). T (fits binary32 (getD (flatV (v ∷ vs)) n nan))) (sym e) (r .0), subst (λ (n : ℕ). T (fits binary32 (getD (flatV (v ∷ vs)) n nan))) (sym f) (r .1))
 
 -- ---- rule 8, and the empty cap
-base-held : (e : EndpointData) (x y : Float) → PlaceHeld (baseVertexOf e x y)
+base-held : (e : EndpointData) (side : Side) (x y : Float) → PlaceHeld (baseVertexOf e side x y)
 unfolding baseVertexOf vertexOf plusOf
-base-held e x y = (add-fits binary32 _ _, add-fits binary32 _ _)
+base-held e side x y = (add-fits binary32 _ _, add-fits binary32 _ _)
 
-side-held : (e : EndpointData) (s : SidePoints) → AllHeld (sideVerticesOf e s)
+side-held : (e : EndpointData) (side : Side) (s : SidePoints) → AllHeld (sideVerticesOf e side s)
 unfolding sideVerticesOf
-side-held e (Single x y) = (base-held e x y, tt)
-side-held e (Pair x0 y0 x1 y1) = (base-held e x0 y0, (base-held e x1 y1, tt))
+side-held e side (Single x y) = (base-held e side x y, tt)
+side-held e side (Pair x0 y0 x1 y1) = (base-held e side x0 y0, (base-held e side x1 y1, tt))
 
 joints-held : (js : List EndpointData) → AllHeld (verticesOf js)
 unfolding verticesOf jointVerticesOf
 joints-held [] = tt
 joints-held (j ∷ js) =
-    append-held (sideVerticesOf j (j .positive) ++ sideVerticesOf j (j .negative)) (verticesOf js)
-    (append-held (sideVerticesOf j (j .positive)) (sideVerticesOf j (j .negative)) (side-held j (j .positive)) (side-held j (j .negative))) (joints-held js)
+    append-held (baseVerticesOf j Positive ++ baseVerticesOf j Negative) (verticesOf js)
+    (append-held (baseVerticesOf j Positive) (baseVerticesOf j Negative) (side-held j Positive (j .positive)) (side-held j Negative (j .negative))) (joints-held js)
 
-cap-held : (p : Point) (h a x y : Float) → PlaceHeld (capVertexOf p h a x y)
+cap-held : (e : Endpoint) (h a : Float) (side : Side) (x y : Float) → PlaceHeld (capVertexOf e h a side x y)
 unfolding capVertexOf vertexOf plusOf
-cap-held p h a x y = (add-fits binary32 _ _, add-fits binary32 _ _)
+cap-held e h a side x y = (add-fits binary32 _ _, add-fits binary32 _ _)
 
-caps-held : (p : Point) (h a : Float) → AllHeld (capVerticesOf p h a)
+caps-held : (e : Endpoint) (h a : Float) → AllHeld (capVerticesOf e h a)
 unfolding capVerticesOf capPairOf
-caps-held p h a = (cap-held p h a _ _, (cap-held p h a _ _, (cap-held p h a _ _, (cap-held p h a _ _, tt))))
+caps-held e h a = (cap-held e h a _ _ _, (cap-held e h a _ _ _, (cap-held e h a _ _ _, (cap-held e h a _ _ _, tt))))
 
 -- ---- runs
 shape-held : (o : Stroke) (s : Shape) → AllHeld (shapeVertices o s)
 unfolding shapeVertices
 shape-held o nothing = tt
-shape-held o (emptyCap p) = caps-held (p .position) (o .«half_width») (f32 0)
+shape-held o (emptyCap p) = caps-held p (o .«half_width») (f32 0)
 shape-held o (along js) = joints-held js
 
 pub mesh-held : (o : Stroke) (rs : List (Run Endpoint)) → AllHeld (meshVertices o rs)
