@@ -15,6 +15,7 @@ struct options {
 
 struct mesh {
     float *vertices;
+    uint32_t *sources;
     uint32_t *triangles;
     size_t answer[3];
 };
@@ -36,7 +37,7 @@ static void *room(size_t n, size_t size)
 
 static uint32_t stroke(const uint8_t *verbs, const float *coords, const size_t *path, struct options o, size_t vertices, size_t triangles, struct mesh *m)
 {
-    return stipeharbor_tessellate(verbs, path[1], coords, path[2], o.width, o.limit, o.join, o.cap, o.merge, m->vertices, 5 * vertices, m->triangles, 3 * triangles,
+    return stipeharbor_tessellate(verbs, path[1], coords, path[2], o.width, o.limit, o.join, o.cap, o.merge, m->vertices, 5 * vertices, m->sources, vertices, m->triangles, 3 * triangles,
                                   m->answer, 3);
 }
 
@@ -53,6 +54,7 @@ static uint32_t mesh_of(const uint8_t *text, size_t length, struct options o, st
     if (number == STIPEHARBOR_VERTEX_ROOM) {
         size_t n = m->answer[1], t = m->answer[2];
         m->vertices = room(5 * n, sizeof *m->vertices);
+        m->sources = room(n, sizeof *m->sources);
         m->triangles = room(3 * t, sizeof *m->triangles);
         number = stroke(verbs, coords, path, o, n, t, m);
     }
@@ -81,7 +83,7 @@ int main(int argc, char **argv)
         o = (struct options){strtof(argv[1], NULL), strtof(argv[2], NULL), strtof(argv[5], NULL), (uint32_t)strtoul(argv[3], NULL, 10), (uint32_t)strtoul(argv[4], NULL, 10)};
     else if (argc != 1)
         return failed("usage: large [WIDTH LIMIT JOIN CAP MERGE]");
-    struct mesh m = {NULL, NULL, {0, 0, 0}};
+    struct mesh m = {NULL, NULL, NULL, {0, 0, 0}};
     /* One byte more than a text may have: what comes after it changes nothing. */
     uint8_t *text = room(STIPEHARBOR_TEXT_LIMIT + 1, 1);
     size_t length = fread(text, 1, STIPEHARBOR_TEXT_LIMIT + 1, stdin);
@@ -94,6 +96,7 @@ int main(int argc, char **argv)
         printf("refused %u %zu\n", (unsigned)number, m.answer[0]);
     free(text);
     free(m.vertices);
+    free(m.sources);
     free(m.triangles);
     if (fflush(stdout) != 0 || ferror(stdout))
         return failed("the page could not be written");

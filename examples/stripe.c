@@ -11,6 +11,7 @@
 #define VERB_ROOM 1024
 #define COORD_ROOM 2048
 #define VERTEX_ROOM (5 * 1024)
+#define SOURCE_ROOM 1024
 #define TRIANGLE_ROOM (3 * 1536)
 
 /* One byte more: what comes after it changes nothing. */
@@ -18,6 +19,7 @@ static uint8_t text[TEXT_ROOM + 1];
 static uint8_t verbs[VERB_ROOM];
 static float coords[COORD_ROOM];
 static float vertices[VERTEX_ROOM];
+static uint32_t sources[SOURCE_ROOM];
 static uint32_t triangles[TRIANGLE_ROOM];
 
 static uint32_t bits(float x)
@@ -54,7 +56,7 @@ int main(void)
         number = stipeharbor_read(text, length, verbs, VERB_ROOM, coords, COORD_ROOM, answer, 3);
     if (number == STIPEHARBOR_ACCEPTED)
         number = stipeharbor_tessellate(verbs, answer[1], coords, answer[2], 2.0f, 4.0f, STIPEHARBOR_MITER, STIPEHARBOR_BUTT,
-                                        STIPEHARBOR_MERGE_RANGE_LEAST, vertices, VERTEX_ROOM, triangles, TRIANGLE_ROOM, answer, 3);
+                                        STIPEHARBOR_MERGE_RANGE_LEAST, vertices, VERTEX_ROOM, sources, SOURCE_ROOM, triangles, TRIANGLE_ROOM, answer, 3);
     if (number == STIPEHARBOR_ACCEPTED)
         print_mesh(answer[1], answer[2]);
     else

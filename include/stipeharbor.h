@@ -27,7 +27,7 @@ enum stipeharbor_number {
     STIPEHARBOR_VERB = 3,           /* the verb at the place is unknown or misplaced; or, at the number of verbs, a run has no end or the coordinates are not two to each begin or line */
     STIPEHARBOR_COORDINATE = 4,     /* the coordinate at the place is not finite or too large */
     /* 5 is retired: no path ever earned it. It is not given, and gets no other meaning. */
-    STIPEHARBOR_VERTEX_ROOM = 6,    /* too few vertex places; the counts say how many are needed */
+    STIPEHARBOR_VERTEX_ROOM = 6,    /* too few vertex places, in the vertex list or in that of sources; the counts say how many are needed */
     STIPEHARBOR_TRIANGLE_ROOM = 7,  /* too few triangle places; the counts say how many are needed */
     STIPEHARBOR_TOO_LONG = 8,       /* the text has more than STIPEHARBOR_TEXT_LIMIT bytes */
     STIPEHARBOR_OUT_OF_FORM = 9,    /* from the byte at the place on, or at its end, the text is no path text */
@@ -74,11 +74,12 @@ enum stipeharbor_number {
 #define STIPEHARBOR_MERGE_RANGE_LEAST 0.0078125f
 #define STIPEHARBOR_MERGE_RANGE_MOST 1.0f
 
-/* Strokes a path: a mesh at the start of `vertices` (five floats each: x, y, the normal's x and y, the advancement) and of `triangles` (three vertex numbers
- * each). Elements behind it keep what they have. Room is the list's length over 5 or over 3, rounded down.
+/* Strokes a path: a mesh at the start of `vertices` (five floats each: x, y, the normal's x and y, the advancement), of `sources` (one number to a vertex: where it
+ * came from, below) and of `triangles` (three vertex numbers each). Elements behind it keep what they have. Room is the list's length over 5 or over 3, rounded
+ * down; of `sources` its length. Vertex room is the smaller of the two lists'.
  * A point whose squared distance to the last one kept is below `merge_range` squared, both in floats, is left out, and so are the last ones of a closed run that
  * are so near its first. The least range leaves out what is too near to be drawn; plans traced by hand want more.
- * Refusals 1 to 4, 6 and 7; one leaves `vertices` and `triangles` as they were. With both lengths 0 the counts can be asked for: 6 carries them, or 0 where they are 0.
+ * Refusals 1 to 4, 6 and 7; one leaves `vertices`, `sources` and `triangles` as they were. With all three lengths 0 the counts can be asked for: 6 carries them, or 0 where they are 0.
  * `answer` gets the place (of 3 and 4, else 0), the number of vertices and the number of triangles (of 0, 6 and 7, else 0). */
 uint32_t stipeharbor_tessellate(
     const uint8_t *verbs, size_t verbs_len,
@@ -89,8 +90,14 @@ uint32_t stipeharbor_tessellate(
     uint32_t line_cap,
     float merge_range,
     float *vertices, size_t vertices_len,
+    uint32_t *sources, size_t sources_len,
     uint32_t *triangles, size_t triangles_len,
     size_t *answer, size_t answer_len);
+
+/* Of a vertex's source: the number of the endpoint that it came from, counted from 0 over the begin and line verbs of the whole path, those whose points are left
+ * out as well; and whether it lies on the negative side (1), the right-hand one where y points up, or on the positive one (0). */
+#define STIPEHARBOR_SOURCE_ENDPOINT(source) ((source) / 2)
+#define STIPEHARBOR_SOURCE_IS_NEGATIVE(source) ((source) % 2)
 
 /* Reads path text (M, L, H, V and Z in either case, decimals of up to six places) into the start of `verbs` and of `coords`, as stipeharbor_tessellate takes them. Elements behind keep what they have.
  * Refusals 8 to 11; one leaves `verbs` and `coords` as they were.

@@ -24,17 +24,35 @@ static void short_answers(void)
     for (size_t length = 0; length <= 5; length++) {
         size_t answer[5] = {UNTOUCHED, UNTOUCHED, UNTOUCHED, UNTOUCHED, UNTOUCHED};
         uint32_t number = stipeharbor_tessellate(verbs, 3, coords, 4, 2.0f, 4.0f, STIPEHARBOR_MITER, STIPEHARBOR_BUTT, STIPEHARBOR_MERGE_RANGE_LEAST,
-                                                 NULL, 0, NULL, 0, length ? answer : NULL, length);
+                                                 NULL, 0, NULL, 0, NULL, 0, length ? answer : NULL, length);
         expect(number == STIPEHARBOR_VERTEX_ROOM, "want of room is told whatever the answer's length");
         for (size_t i = 0; i < 5; i++)
             expect(answer[i] == (i < length && i < 3 ? told[i] : UNTOUCHED), "the answer goes as far as its list");
     }
 }
 
+/* A vertex's record: twice the endpoint's number, plus one on the negative side. With one record too few it is 6. */
+static void sources_told(void)
+{
+    static const uint8_t verbs[] = {STIPEHARBOR_BEGIN, STIPEHARBOR_LINE, STIPEHARBOR_END_OPEN};
+    static const float coords[] = {0.0f, 1.0f, 2.0f, 1.0f};
+    float vertices[20];
+    uint32_t sources[5] = {9, 9, 9, 9, 9}, triangles[6];
+    expect(stipeharbor_tessellate(verbs, 3, coords, 4, 2.0f, 4.0f, STIPEHARBOR_MITER, STIPEHARBOR_BUTT, STIPEHARBOR_MERGE_RANGE_LEAST, vertices, 20, sources, 3, triangles, 6, NULL, 0)
+               == STIPEHARBOR_VERTEX_ROOM && sources[0] == 9,
+           "a source list that is too short is 6, and left alone");
+    expect(stipeharbor_tessellate(verbs, 3, coords, 4, 2.0f, 4.0f, STIPEHARBOR_MITER, STIPEHARBOR_BUTT, STIPEHARBOR_MERGE_RANGE_LEAST, vertices, 20, sources, 5, triangles, 6, NULL, 0)
+               == STIPEHARBOR_ACCEPTED,
+           "with a record more than is needed there is a mesh");
+    for (uint32_t i = 0; i < 4; i++)
+        expect(STIPEHARBOR_SOURCE_ENDPOINT(sources[i]) == i / 2 && STIPEHARBOR_SOURCE_IS_NEGATIVE(sources[i]) == i % 2, "a record names the endpoint and the side");
+    expect(sources[4] == 9, "a record that is not asked for is left alone");
+}
+
 static void nulls(void)
 {
     expect(stipeharbor_read(NULL, 0, NULL, 0, NULL, 0, NULL, 0) == STIPEHARBOR_ACCEPTED, "the empty text is a path");
-    expect(stipeharbor_tessellate(NULL, 0, NULL, 0, 2.0f, 4.0f, STIPEHARBOR_BEVEL, STIPEHARBOR_SQUARE, STIPEHARBOR_MERGE_RANGE_MOST, NULL, 0, NULL, 0, NULL, 0)
+    expect(stipeharbor_tessellate(NULL, 0, NULL, 0, 2.0f, 4.0f, STIPEHARBOR_BEVEL, STIPEHARBOR_SQUARE, STIPEHARBOR_MERGE_RANGE_MOST, NULL, 0, NULL, 0, NULL, 0, NULL, 0)
                == STIPEHARBOR_ACCEPTED,
            "no verbs are a path");
     expect(stipeharbor_root(-1.0f, NULL, 0) == STIPEHARBOR_NO_ROOT, "a negative has no root");
@@ -114,6 +132,7 @@ static void lists(void)
 int main(void)
 {
     short_answers();
+    sources_told();
     nulls();
     values();
     stl();

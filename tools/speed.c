@@ -12,6 +12,7 @@ enum { POINTS = 65535 };
 static uint8_t verbs[POINTS + 1];
 static float coords[2 * POINTS];
 static float vertices[5 * 4 * POINTS];
+static uint32_t sources[4 * POINTS];
 static uint32_t triangles[3 * 4 * POINTS];
 
 /* Turns to 17 degrees, to 169, or of 90, to either side as a congruential sequence says. */
@@ -30,18 +31,18 @@ static void fill(const char *kind, size_t n) {
     verbs[n] = STIPEHARBOR_END_OPEN;
 }
 
-static uint32_t stroke(size_t n, size_t vertex_floats, size_t triangle_numbers, size_t *answer) {
-    return stipeharbor_tessellate(verbs, n + 1, coords, 2 * n, 2, 4, STIPEHARBOR_MITER, STIPEHARBOR_BUTT, STIPEHARBOR_MERGE_RANGE_LEAST, vertices, vertex_floats, triangles, triangle_numbers, answer, 3);
+static uint32_t stroke(size_t n, size_t vertex_floats, size_t vertex_sources, size_t triangle_numbers, size_t *answer) {
+    return stipeharbor_tessellate(verbs, n + 1, coords, 2 * n, 2, 4, STIPEHARBOR_MITER, STIPEHARBOR_BUTT, STIPEHARBOR_MERGE_RANGE_LEAST, vertices, vertex_floats, sources, vertex_sources, triangles, triangle_numbers, answer, 3);
 }
 
 int main(int argc, char **argv) {
     size_t n = argc == 5 ? strtoul(argv[3], 0, 10) : 0, repeat = argc == 5 ? strtoul(argv[4], 0, 10) : 0;
     if (n < 1 || n > POINTS) return fprintf(stderr, "usage: speed gentle|sharp|right plenty|exact POINTS REPEAT\n"), 2;
     fill(argv[1], n);
-    size_t answer[3], nv = sizeof vertices / sizeof *vertices, nt = sizeof triangles / sizeof *triangles;
-    uint32_t number = stroke(n, nv, nt, answer);
-    if (*argv[2] == 'e') nv = 5 * answer[1], nt = 3 * answer[2];
-    for (size_t i = 0; i < repeat; i++) number |= stroke(n, nv, nt, answer);
+    size_t answer[3], nv = sizeof vertices / sizeof *vertices, ns = sizeof sources / sizeof *sources, nt = sizeof triangles / sizeof *triangles;
+    uint32_t number = stroke(n, nv, ns, nt, answer);
+    if (*argv[2] == 'e') nv = 5 * answer[1], ns = answer[1], nt = 3 * answer[2];
+    for (size_t i = 0; i < repeat; i++) number |= stroke(n, nv, ns, nt, answer);
     printf("%u: %zu vertices, %zu triangles\n", number, answer[1], answer[2]);
     return number != 0;
 }

@@ -5,7 +5,7 @@
 use std::fmt::Write as _;
 use std::io::{self, Read, Write};
 use std::process::ExitCode;
-use stipeharbor::{read, tessellate, Cap, Join, Options, Refusal, MERGE_RANGE_LEAST};
+use stipeharbor::{read, tessellate, Cap, Join, Options, Refusal, Source, MERGE_RANGE_LEAST};
 
 /// The longest text that the program takes; the library takes longer ones.
 const TEXT_ROOM: usize = 16_384;
@@ -23,10 +23,18 @@ fn drawn(text: &[u8]) -> Result<String, Refusal> {
         return Err(Refusal::TooLong);
     }
     let (mut verbs, mut coords) = ([0; 1024], [0.0; 2048]);
+    let mut sources = [Source::default(); 1024];
     let (mut vertices, mut triangles) = ([0.0; 5 * 1024], [0; 3 * 1536]);
     let path = read(text, &mut verbs, &mut coords)?;
     let (verbs, coords) = (&verbs[..path.verbs], &coords[..path.coordinates]);
-    let mesh = tessellate(verbs, coords, OPTIONS, &mut vertices, &mut triangles)?;
+    let mesh = tessellate(
+        verbs,
+        coords,
+        OPTIONS,
+        &mut vertices,
+        &mut sources,
+        &mut triangles,
+    )?;
     Ok(printed(
         &vertices[..5 * mesh.vertices],
         &triangles[..3 * mesh.triangles],

@@ -2,7 +2,7 @@
 //! [`Refusal`] comes out.
 //!
 //! ```
-//! use stipeharbor::{tessellate, Cap, Join, Options, BEGIN, END_OPEN, LINE, MERGE_RANGE_LEAST};
+//! use stipeharbor::{tessellate, Cap, Join, Options, Side, Source, BEGIN, END_OPEN, LINE, MERGE_RANGE_LEAST};
 //!
 //! let options = Options {
 //!     width: 2.0,
@@ -12,9 +12,10 @@
 //!     merge_range: MERGE_RANGE_LEAST,
 //! };
 //! let (verbs, coordinates) = ([BEGIN, LINE, END_OPEN], [0.0, 1.0, 2.0, 1.0]);
-//! let (mut vertices, mut triangles) = ([0.0; 5 * 4], [0; 3 * 2]);
-//! let mesh = tessellate(&verbs, &coordinates, options, &mut vertices, &mut triangles)?;
+//! let (mut vertices, mut sources, mut triangles) = ([0.0; 5 * 4], [Source::default(); 4], [0; 3 * 2]);
+//! let mesh = tessellate(&verbs, &coordinates, options, &mut vertices, &mut sources, &mut triangles)?;
 //! assert_eq!((mesh.vertices, mesh.triangles), (4, 2));
+//! assert_eq!((sources[3].endpoint(), sources[3].side()), (1, Side::Negative));
 //! # Ok::<(), stipeharbor::Refusal>(())
 //! ```
 //!
@@ -87,10 +88,53 @@ pub struct Options {
     pub merge_range: f32,
 }
 
+/// The side of a path, seen along it where y points up.
+#[derive(Clone, Copy, Debug, PartialEq, Eq)]
+pub enum Side {
+    /// The left-hand side.
+    Positive,
+    /// The right-hand side.
+    Negative,
+}
+
+/// Where a vertex came from: an endpoint, and a side of it.
+#[derive(Clone, Copy, Debug, Default, PartialEq, Eq)]
+#[repr(transparent)]
+pub struct Source(u32);
+
+impl Source {
+    /// The endpoint's number, counted from 0 over the begin and line verbs of the whole path,
+    /// those whose points are left out as well.
+    pub fn endpoint(self) -> usize {
+        (self.0 / 2) as usize
+    }
+
+    /// The side on which the vertex lies.
+    pub fn side(self) -> Side {
+        if self.0 % 2 == 0 {
+            Side::Positive
+        } else {
+            Side::Negative
+        }
+    }
+
+    /// Of that endpoint on that side; nothing where a record cannot hold the endpoint's number.
+    pub fn new(endpoint: usize, side: Side) -> Option<Source> {
+        let twice = u32::try_from(endpoint).ok()?.checked_mul(2)?;
+        Some(Source(twice + (side == Side::Negative) as u32))
+    }
+
+    /// The record as the library writes it: twice the endpoint's number, plus one on the negative
+    /// side.
+    pub fn record(self) -> u32 {
+        self.0
+    }
+}
+
 /// What [`tessellate`] wrote.
 #[derive(Clone, Copy, Debug, PartialEq, Eq)]
 pub struct Mesh {
-    /// Vertices, five floats each at the start of the vertex list.
+    /// Vertices, five floats each at the start of the vertex list, and as many sources.
     pub vertices: usize,
     /// Triangles, three vertex numbers each at the start of the triangle list.
     pub triangles: usize,
@@ -105,14 +149,15 @@ pub struct Path {
     pub coordinates: usize,
 }
 
-/// Strokes a path. A vertex is five floats (x, y, the normal's x and y, the advancement), a
-/// triangle three vertex numbers.
-/// With two empty lists the refusal [`Refusal::VertexRoom`] says how many of each there are to be.
+/// Strokes a path. A vertex is five floats (x, y, the normal's x and y, the advancement) and has
+/// its [`Source`] in a list of their own; a triangle is three vertex numbers.
+/// With three empty lists the refusal [`Refusal::VertexRoom`] says how many of each there are to be.
 pub fn tessellate(
     verbs: &[u8],
     coordinates: &[f32],
     options: Options,
     vertices: &mut [f32],
+    sources: &mut [Source],
     triangles: &mut [u32],
 ) -> Result<Mesh, Refusal> {
     let mut answer = [0; 3];
@@ -125,6 +170,7 @@ pub fn tessellate(
         options.cap as u32,
         options.merge_range,
         vertices,
+        raw::records(sources),
         triangles,
         &mut answer,
     );

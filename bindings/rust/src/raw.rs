@@ -2,6 +2,8 @@
 //! over the start of its last list, as far as that goes. Joins and caps are numbers here, any at
 //! all. No other file has `unsafe`.
 
+use crate::Source;
+
 extern "C" {
     fn stipeharbor_tessellate(
         verbs: *const u8,
@@ -15,6 +17,8 @@ extern "C" {
         merge_range: f32,
         vertices: *mut f32,
         vertices_len: usize,
+        sources: *mut u32,
+        sources_len: usize,
         triangles: *mut u32,
         triangles_len: usize,
         answer: *mut usize,
@@ -89,6 +93,12 @@ extern "C" {
     ) -> u32;
 }
 
+/// A list of sources as the numbers that it holds.
+pub(crate) fn records(sources: &mut [Source]) -> &mut [u32] {
+    // `Source` is a transparent u32, and any u32 is one.
+    unsafe { &mut *(sources as *mut [Source] as *mut [u32]) }
+}
+
 /// `answer` gets the place, the number of vertices and the number of triangles.
 #[allow(clippy::too_many_arguments)] // They are the foreign call's.
 pub fn tessellate(
@@ -100,6 +110,7 @@ pub fn tessellate(
     line_cap: u32,
     merge_range: f32,
     vertices: &mut [f32],
+    sources: &mut [u32],
     triangles: &mut [u32],
     answer: &mut [usize],
 ) -> u32 {
@@ -117,6 +128,8 @@ pub fn tessellate(
             merge_range,
             vertices.as_mut_ptr(),
             vertices.len(),
+            sources.as_mut_ptr(),
+            sources.len(),
             triangles.as_mut_ptr(),
             triangles.len(),
             answer.as_mut_ptr(),

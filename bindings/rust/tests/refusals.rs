@@ -3,6 +3,7 @@
 use stipeharbor::{check, check_attached, compute_normal, read, root, tessellate};
 use stipeharbor::{narrow, stl_corners, stl_file, stl_read, stl_write, widen};
 use stipeharbor::{Cap, Join, Mesh, Options, Path, Refusal, BEGIN, END_CLOSED, END_OPEN, LINE};
+use stipeharbor::{Side, Source};
 use stipeharbor::{MERGE_RANGE_LEAST, MERGE_RANGE_MOST, TEXT_LIMIT};
 
 const OPTIONS: Options = Options {
@@ -16,7 +17,15 @@ const VERBS: [u8; 3] = [BEGIN, LINE, END_OPEN];
 const COORDINATES: [f32; 4] = [0.0, 1.0, 2.0, 1.0];
 
 fn mesh(verbs: &[u8], coordinates: &[f32], options: Options) -> Result<Mesh, Refusal> {
-    tessellate(verbs, coordinates, options, &mut [0.0; 40], &mut [0; 24])
+    let sources = &mut [Source::default(); 8];
+    tessellate(
+        verbs,
+        coordinates,
+        options,
+        &mut [0.0; 40],
+        sources,
+        &mut [0; 24],
+    )
 }
 
 #[test]
@@ -42,28 +51,37 @@ fn of_a_mesh() {
 #[test]
 fn of_room() {
     let (vertices, triangles) = (4, 2);
-    let lend = |floats: usize, numbers: usize| {
+    let lend = |floats: usize, sources: usize, numbers: usize| {
         let (mut v, mut t) = (vec![7.0; floats], vec![7; numbers]);
-        let answer = tessellate(&VERBS, &COORDINATES, OPTIONS, &mut v, &mut t);
+        let mut s = vec![Source::default(); sources];
+        let answer = tessellate(&VERBS, &COORDINATES, OPTIONS, &mut v, &mut s, &mut t);
         assert!(answer.is_ok() || v.iter().all(|&x| x == 7.0) && t.iter().all(|&n| n == 7));
+        assert!(answer.is_ok() || s.iter().all(|&s| s == Source::default()));
         answer
     };
     assert_eq!(
-        lend(19, 6),
+        lend(19, 4, 6),
         Err(Refusal::VertexRoom {
             vertices,
             triangles
         })
     );
     assert_eq!(
-        lend(20, 5),
+        lend(20, 3, 5),
+        Err(Refusal::VertexRoom {
+            vertices,
+            triangles
+        })
+    );
+    assert_eq!(
+        lend(20, 4, 5),
         Err(Refusal::TriangleRoom {
             vertices,
             triangles
         })
     );
     assert_eq!(
-        lend(20, 6),
+        lend(20, 4, 6),
         Ok(Mesh {
             vertices,
             triangles
@@ -96,7 +114,8 @@ fn of_options() {
             merge_range,
             ..OPTIONS
         };
-        let answer = tessellate(&verbs, &traced, options, &mut [0.0; 50], &mut [0; 30]);
+        let (sources, triangles) = (&mut [Source::default(); 10], &mut [0; 30]);
+        let answer = tessellate(&verbs, &traced, options, &mut [0.0; 50], sources, triangles);
         answer.map(|m| (m.vertices, m.triangles))
     };
     assert_eq!(merged(MERGE_RANGE_LEAST), Ok((10, 10)));
@@ -179,7 +198,9 @@ fn our_meshes_pass() {
     let coordinates = [COORDINATES, COORDINATES].concat();
     for runs in [1, 2] {
         let (verbs, coordinates) = (&verbs[..3 * runs], &coordinates[..4 * runs]);
-        let mesh = tessellate(verbs, coordinates, OPTIONS, &mut vertices, &mut triangles);
+        let sources = &mut [Source::default(); 8];
+        let lists = (&mut vertices, sources, &mut triangles);
+        let mesh = tessellate(verbs, coordinates, OPTIONS, lists.0, lists.1, lists.2);
         let mesh = mesh.expect("a mesh");
         let list = &triangles[..3 * mesh.triangles];
         assert_eq!(check(mesh.vertices, list), Ok(()));
@@ -215,4 +236,25 @@ fn of_stored_lists() {
     let refused = narrow(&[1, 65_536], &mut narrowed);
     assert_eq!(refused, Err(Refusal::WideNumber { place: 1 }));
     assert_eq!(narrowed, stored);
+}
+
+#[test]
+fn of_sources() {
+    let verbs = [BEGIN, LINE, LINE, END_CLOSED];
+    let coordinates = [0.0, 0.0, 0.0, 0.0, 100.0, 0.0];
+    let bevel = Options {
+        join: Join::Bevel,
+        ..OPTIONS
+    };
+    let mut sources = [Source::default(); 9];
+    let lists = (&mut [0.0; 45], &mut [0; 27]);
+    let mesh = tessellate(&verbs, &coordinates, bevel, lists.0, &mut sources, lists.1);
+    assert_eq!(mesh.map(|m| m.vertices), Ok(8));
+    // The second point is left out and counted, and join 0 names p0.
+    let ends: Vec<usize> = sources.iter().map(|s| s.endpoint()).collect();
+    assert_eq!(ends, [2, 2, 2, 2, 0, 0, 0, 0, 0]);
+    assert_eq!(sources[0].side(), Side::Positive);
+    assert_eq!(Source::new(2, Side::Negative), Some(sources[2]));
+    assert_eq!(sources[2].record(), 5);
+    assert_eq!(Source::new(1 << 31, Side::Positive), None);
 }

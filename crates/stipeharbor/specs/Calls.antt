@@ -28,8 +28,8 @@ pub record Tessellated : Type 0 where
   pub answer : List ℕ
   pub lists : Lists
 
-abbrev pub tessellated : ℕ → List ℕ → List Float → List ℕ → Tessellated
-tessellated number answer v t = record { number = number; answer = answer; lists = lent v t }
+abbrev pub tessellated : ℕ → List ℕ → List Float → List ℕ → List ℕ → Tessellated
+tessellated number answer v s t = record { number = number; answer = answer; lists = lent v s t }
 
 -- the mesh call's outcome: "place", then "both counts"
 unfoldable pub tessellateOutOf : List ℕ → List Float → Options → Lists → List ℕ → Tessellated

@@ -43,10 +43,11 @@ pub extern "C" fn stipeharbor_tessellate(
     line_cap: u32,
     merge_range: f32,
     vertices: &mut [f32],
+    sources: &mut [u32],
     triangles: &mut [Index],
     answer: &mut [usize],
 ) -> u32
-    ensures { λ r. ⌜ tessellated r (now (answer .exit)) (now (vertices .exit)) (now (triangles .exit)) ≡ tessellateOutOf (now (verbs .entry)) (now (coords .entry)) (optionsOf width «miter_limit» «line_join» «line_cap» «merge_range») (lent (now (vertices .entry)) (now (triangles .entry))) (now (answer .entry)) ⌝ }
+    ensures { λ r. ⌜ tessellated r (now (answer .exit)) (now (vertices .exit)) (now (sources .exit)) (now (triangles .exit)) ≡ tessellateOutOf (now (verbs .entry)) (now (coords .entry)) (optionsOf width «miter_limit» «line_join» «line_cap» «merge_range») (lent (now (vertices .entry)) (now (sources .entry)) (now (triangles .entry))) (now (answer .entry)) ⌝ }
 {
     let options = Options {
         width: width,
@@ -55,7 +56,7 @@ pub extern "C" fn stipeharbor_tessellate(
         cap: line_cap,
         merge_range: merge_range,
     };
-    let a = mesh_answer_of(tessellate(verbs, coords, options, vertices, triangles));
+    let a = mesh_answer_of(tessellate(verbs, coords, options, vertices, sources, triangles));
     put_numbers(answer, a.place, a.vertices, a.triangles);
     a.number
 }

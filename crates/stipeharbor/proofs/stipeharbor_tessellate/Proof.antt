@@ -1,6 +1,6 @@
 -- `stipeharbor::stipeharbor_tessellate` meets its contract. Assumes nothing.
-use Rattle.stipeharbor.proofs.Passing.{is-tessellated}
 use borrow.Author.Needs.{needs}
+use Rattle.stipeharbor.proofs.Passing.{is-tessellated}
 use Rattle.stipeharbor.proofs.stipeharbor_tessellate.Statement.{statement}
 use Rattle.stipeharbor.proofs.stipeharbor_tessellate.Tie as tie
 
@@ -22,8 +22,11 @@ same-length-2 c = search needs
 same-length-3 : tie.Need-same-length-3
 same-length-3 c = search needs
 
+same-length-4 : tie.Need-same-length-4
+same-length-4 c = search needs
+
 returns : tie.Need-returns
-returns c = is-tessellated _ _ _ _ _ (c .before .before .before .before .before .before .before .before .before .tessellate .ensures) (c .before .before .before .before .mesh-answer-of .ensures) (c .before .before .put-numbers .ensures)
+returns c = is-tessellated _ _ _ _ _ (c .before .before .before .before .before .before .before .before .before .before .before .tessellate .ensures) (c .before .before .before .before .mesh-answer-of .ensures) (c .before .before .put-numbers .ensures)
 
 pub stipeharbor-tessellate-spec : {M : Type 1} → statement M
 stipeharbor-tessellate-spec =
@@ -35,4 +38,5 @@ stipeharbor-tessellate-spec =
     same-length
     same-length-2
     same-length-3
+    same-length-4
     returns)
