@@ -3,7 +3,7 @@ use mathlib.Core.Path.{_≡_, refl}
 use mathlib.Core.Bool.{Bool, true, false, not, _&&_, _||_}
 use lib.Ieee.{Float, add, mul, neg, lt, eq, ofBits}
 use Rattle.plane.specs.F32.{_⊗_, f32, above}
-use Rattle.plane.specs.Normal.{pick, epsilon, normalOf}
+use Rattle.plane.specs.Normal.{epsilon, normalOf}
 use Rattle.plane.specs.Vector.{point, plusOf, minusOf, timesOf, dotOf, squareLengthOf}
 use Rattle.plane.specs.declared.vector.Point.{Point}
 use Rattle.endpoint.specs.Endpoint.{signOf, pairOf}
@@ -12,7 +12,7 @@ use Rattle.endpoint.specs.declared.Side.{Side}
 use Rattle.endpoint.specs.declared.Side.the-variants.{Positive, Negative}
 use Rattle.join.specs.Clip.{zeroOf, cutOf, clippedOf}
 use Rattle.join.specs.Record.{sideOf}
-use Rattle.join.specs.Side.{cornerOf, inwardOf, overshootsOf, foldedOf, foldsOf, tooLong, exceededOf, tipOf, kindOf, decidedOf, clippedPairOf, joinSideOf}
+use Rattle.join.specs.Side.{cornerOf, inwardOf, overshootsOf, foldedOf, foldsOf, exceededOf, tipOf, kindOf, decidedOf, clippedPairOf, joinSideOf}
 use Rattle.join.specs.declared.edge.EdgeSide.{EdgeSide}
 use Rattle.join.specs.declared.side.Turn.{Turn}
 

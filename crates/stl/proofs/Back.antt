@@ -9,7 +9,7 @@ use borrow.Author.Tests.{ltb-false}
 use lib.Dec.{T, ltb}
 use lib.Ieee.{Float, binary32, fits, ofBits, toBits}
 use lib.Ieee.Bits.{ofBits-toBits, toBits-lt, is-true}
-use lib.ListN.{length, getD, take, length-append}
+use lib.ListN.{length, getD, length-append}
 use Rattle.refusals.specs.Numbers.{numberOf, accepted, fileRoom, badCorner}
 use Rattle.lists.specs.Over.{over, flat}
 use Rattle.lists.proofs.Laws.{take-over, length-flat}

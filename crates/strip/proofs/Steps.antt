@@ -5,13 +5,12 @@ use mathlib.Core.Path.{_≡_, refl, sym, _∙_}
 use mathlib.Core.Bool.{true≢false}
 use mathlib.Core.List.{List, [], _∷_, _++_, append-assoc}
 use native.Mathlib.Omega.{arith}
-use lib.ListN.{length}
 use Rattle.endpoint.specs.declared.EndpointData.{EndpointData}
 use Rattle.endpoint.specs.declared.VertexId.{VertexId}
 use Rattle.strip.specs.declared.Strip.{Strip}
 use Rattle.strip.specs.Joint.{jointCount, verticesOf}
 use Rattle.strip.specs.Strip.{startOf, nextOf, stepPiece, stepOf, stepsOf, trianglesFrom, pieceOf, Behind, Sound}
-use Rattle.strip.proofs.Joints.{joint-few, length-joint, vertices-append, length-more}
+use Rattle.strip.proofs.Joints.{joint-few, length-joint, vertices-append}
 use Rattle.pieces.specs.Piece.{joined, behind}
 use Rattle.pieces.proofs.Pieces.{joined-none, behind-none, behind-joined}
 

@@ -2,11 +2,11 @@
 -- numbers that are near have a product not much below half of their squares; so the sum's part along the first vector is 0.466 of its length at least,
 -- and after normalizing, two products and a sum 0.0045 at least. Assumes nothing.
 use mathlib.Core.Path.{_≡_, refl, ap}
-use Prim.Native.Nat.{ℕ, zero, _+_, _-_, _*_, _^_, _≤_, _<_}
+use Prim.Native.Nat.{ℕ, _+_, _-_, _*_, _≤_, _<_}
 use native.Mathlib.Nat.{lt-of-not-le, mul-le-mul, mul-le-mul-right, le-of-mul-le-mul-right}
 use native.Mathlib.Decide.{decLe}
 use native.Mathlib.Omega.{arith}
-use mathlib.Core.Bool.{Bool, true, false, not}
+use mathlib.Core.Bool.{Bool, true, false}
 use lib.Ieee.{unlike}
 use Rattle.rounding.proofs.Signed.{above, under, Sums, above-under}
 use Rattle.units.proofs.Relative.{Rel}

@@ -1,7 +1,7 @@
 -- A vector (g, h), its squared length l and its length r, and (x, y), which is (g, h) over r, each rounded: over any whole numbers, u the unit. An error
 -- is counted in parts of 2 ^ 24: two for a square's and a sum's rounding, four with the next, eight with the root's. Assumes nothing.
 use mathlib.Core.Path.{_≡_}
-use Prim.Native.Nat.{ℕ, _+_, _*_, _^_, _≤_, _<_}
+use Prim.Native.Nat.{ℕ, _+_, _*_, _≤_, _<_}
 use native.Mathlib.Nat.{le-trans, le-of-eq, mul-le-mul-right, le-of-mul-le-mul-right, mul-pos}
 use native.Mathlib.Omega.{arith}
 use Rattle.units.proofs.Relative.{Rel}

@@ -7,7 +7,7 @@ use native.Mathlib.Decide.{decLe}
 use native.Mathlib.Omega.{arith}
 use mathlib.Core.Bool.{Bool, false, not}
 use lib.Dec.{lit<, lit≤}
-use lib.Ieee.{binary32, add, mul, lt, ofBits}
+use lib.Ieee.{binary32, mul, lt, ofBits}
 use lib.Ieee.Fits.{add-fits}
 use lib.Ieee.Exact.{HasValue}
 use Rattle.plane.specs.Vector.{dividedOf, negatedOf, turnedOf, squareLengthOf, lengthOf, normalizeOf}

@@ -1,6 +1,6 @@
 -- What an outcome is, by the tests on the way to it. Assumes nothing.
 use Prim.Native.Nat.{ℕ, _≤_, _<_}
-use mathlib.Core.Path.{_≡_, refl, sym}
+use mathlib.Core.Path.{_≡_, refl}
 use mathlib.Core.Bool.{Bool, true, false, cond}
 use mathlib.Core.List.{List}
 use native.Mathlib.Omega.{arith}
@@ -10,7 +10,7 @@ use lib.ListN.{length}
 use Rattle.refusals.specs.Numbers.{numberOf, accepted, listRoom, wideNumber}
 use Rattle.lists.specs.Over.{over}
 use Rattle.widths.specs.Answer.{withCount}
-use Rattle.widths.specs.Widths.{firstWide, Outcome, refused, copied, widenOf, narrowOf}
+use Rattle.widths.specs.Widths.{firstWide, refused, copied, widenOf, narrowOf}
 
 module _ (xs ys : List ℕ) where
   -- ---- widening
