@@ -100,7 +100,7 @@ module _ (o : Stroke) (vs : List ℕ) (cs : List Float) (s : Sound vs cs) where
 
 -- what stands behind the last run, and the lists then
 module _ (o : Stroke) (rs : List (Run Endpoint)) where
-  counts-are : (k : Place) → k ≡ behind undrawn (meshPiece o undrawn rs) → (k .vertices ≡ meshCount o rs) × (k .triangles ≡ length (meshTriangles o 0 rs))
+  pub counts-are : (k : Place) → k ≡ behind undrawn (meshPiece o undrawn rs) → (k .vertices ≡ meshCount o rs) × (k .triangles ≡ length (meshTriangles o 0 rs))
   counts-are k e = rw e (omega (arith, length-vertices o rs), omega arith)
 
   drawn-is : {l l' : Lists} {k : Place} → Passes true undrawn (meshPiece o undrawn rs) l l' k → l'

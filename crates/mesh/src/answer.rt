@@ -89,7 +89,7 @@ pub fn mesh_answer_of(answer: Meshed) -> MeshAnswer
     }
 }
 
-fn with_counts(number: u32, vertices: usize, triangles: usize) -> MeshAnswer
+pub fn with_counts(number: u32, vertices: usize, triangles: usize) -> MeshAnswer
     ensures { λ r. ⌜ r ≡ withCounts number vertices triangles ⌝ }
 {
     MeshAnswer {
@@ -100,7 +100,7 @@ fn with_counts(number: u32, vertices: usize, triangles: usize) -> MeshAnswer
     }
 }
 
-fn with_place(number: u32, place: usize) -> MeshAnswer
+pub fn with_place(number: u32, place: usize) -> MeshAnswer
     ensures { λ r. ⌜ r ≡ withPlace number place ⌝ }
 {
     MeshAnswer {

@@ -25,7 +25,7 @@ ghost use Rattle.mesh.specs.Mesh.{answered, acceptedOf, strokedOf, outco
 ghost use Rattle.mesh.specs.Parts.{Counted};
 
 // What an accepted path needs, counted by a pass that is lent no places.
-fn count_accepted(
+pub fn count_accepted(
     verbs: &[u8],
     coords: &[f32],
     stroke: Stroke,

@@ -42,6 +42,8 @@ pub data Meaning : Type 0 where
   listRoom : Meaning
   -- W-205: "a number too large to narrow"
   wideNumber : Meaning
+  -- W-210: "no run of that number"
+  noRun : Meaning
   -- W-211: "length"
   listLength : Meaning
   -- "number too large"
@@ -72,6 +74,7 @@ numberOf fileLength = 15
 numberOf badCorner = 16
 numberOf listRoom = 17
 numberOf wideNumber = 18
+numberOf noRun = 19
 numberOf listLength = 20
 numberOf numberTooLarge = 21
 numberOf twoAlike = 22

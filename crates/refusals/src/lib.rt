@@ -40,6 +40,8 @@ pub const LIST_ROOM: u32 = 17;
 
 pub const WIDE_NUMBER: u32 = 18;
 
+pub const NO_RUN: u32 = 19;
+
 pub const LIST_LENGTH: u32 = 20;
 
 pub const NUMBER_TOO_LARGE: u32 = 21;

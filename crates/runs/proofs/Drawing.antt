@@ -28,7 +28,7 @@ use Rattle.runs.proofs.Runs.{meshes-append}
 
 -- ---- runs one behind the other
 module _ (o : Stroke) {write : Bool} {k : Place} {l : Lists} where
-  runs-none : Passes write k (meshPiece o k []) l l k
+  pub runs-none : Passes write k (meshPiece o k []) l l k
   unfolding meshVertices meshTriangles
   runs-none = puts-none
 
@@ -42,7 +42,7 @@ module _ (o : Stroke) {write : Bool} {k : Place} {l : Lists} where
     runs-back : Fits write k (meshPiece o k (xs ++ ys)) l → Fits write k1 (meshPiece o k1 ys) l1
     runs-back h = fits-back (meshPiece o k xs) (meshPiece o k1 ys) (rw split at h) e
 
-    runs-both : {l2 : Lists} {k2 : Place} → Passes write k1 (meshPiece o k1 ys) l1 l2 k2 → Passes write k (meshPiece o k (xs ++ ys)) l l2 k2
+    pub runs-both : {l2 : Lists} {k2 : Place} → Passes write k1 (meshPiece o k1 ys) l1 l2 k2 → Passes write k (meshPiece o k (xs ++ ys)) l l2 k2
     runs-both f = rw split (puts-both e f)
 
 -- ---- a verb: one that names no point ends the current run

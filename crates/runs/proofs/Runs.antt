@@ -64,3 +64,8 @@ runs-bounded o (r ∷ rs) =
       vertices = simp length-append (omega (arith, b .vertices, w .vertices));
       triangles = simp length-append (omega (arith, b .triangles, w .triangles, triangles-anywhere o base rs));
     }
+
+pub count-append : (o : Stroke) (xs ys : List (Run Endpoint)) → meshCount o (xs ++ ys) ≡ meshCount o xs + meshCount o ys
+unfolding meshCount
+count-append o [] ys = omega arith
+count-append o (x ∷ xs) ys = omega (arith, count-append o xs ys)

@@ -1,5 +1,6 @@
 // A pass over the runs of a path: each end verb ends a run, which is counted and, where the pass writes, drawn.
 mod cursor;
+pub mod part;
 
 use crate::cursor::Cursor;
 use crate::cursor::moved;
