@@ -1,0 +1,87 @@
+-- "Writing with exactly the measured room is never refused for room; with one place less in any list that needs one, always": by demand 3. Assumes nothing.
+use Prim.Native.Nat.{ℕ, _*_, _≤_}
+use mathlib.Core.Path.{_≡_, refl, sym, ap, _∙_}
+use mathlib.Core.Bool.{Bool, true, false, cond}
+use mathlib.Core.List.{List}
+use native.Mathlib.Omega.{arith}
+use lib.Dec.{eqb}
+use lib.Ieee.{Float}
+use lib.ListN.{length}
+use borrow.Author.Tests.{eqb-true, eqb-false}
+use Rattle.refusals.specs.Numbers.{numberOf, accepted}
+use Rattle.refusals.specs.declared.Refusal.the-variants.{OutOfRange}
+use Rattle.plane.specs.Normal.{pick}
+use Rattle.options.specs.Options.{accepting, refusing, inRange, preparedOf, strokeOf}
+use Rattle.options.specs.declared.Options.{Options}
+use Rattle.options.specs.declared.Stroke.{Stroke}
+use Rattle.options.specs.declared.StrokeAnswer.{StrokeAnswer}
+use Rattle.path.specs.Path.{checkedOf}
+use Rattle.pieces.specs.Piece.{Lists}
+use Rattle.runs.specs.Runs.{runsOf, meshCount, meshTriangles}
+use Rattle.mesh.specs.Answer.{withCounts, withPlace}
+use Rattle.mesh.specs.Demand3.{EarnsNone, Roomed}
+use Rattle.mesh.specs.Mesh.{outcomeOf}
+use Rattle.mesh.specs.declared.answer.MeshAnswer.{MeshAnswer}
+use Rattle.mesh.proofs.Demand3.{demand-3}
+use Rattle.measure.specs.Answer.{onceAccepted}
+use Rattle.measure.specs.Measure.{countsOf, measuredOf, measureOf}
+use Rattle.measure.specs.Room.{MeasuredRoom}
+
+-- an answer of 0 is given where nothing is refused before
+once-accepted : (number place : ℕ) (next : MeshAnswer) → onceAccepted withPlace number place next .number ≡ numberOf accepted → (number ≡ numberOf accepted) × (onceAccepted withPlace number place next ≡ next)
+once-accepted number place next = go (eqb number (numberOf accepted)) refl
+  where
+    go : (t : Bool) → eqb number (numberOf accepted) ≡ t → cond t next (withPlace number place) .number ≡ numberOf accepted → (number ≡ numberOf accepted) × (cond t next (withPlace number place) ≡ next)
+    go true p e = (eqb-true _ _ p, refl)
+    go false p e = absurd (eqb-false number (numberOf accepted) p e)
+
+abbrev strokedAs : Options → Bool → StrokeAnswer
+strokedAs options t = pick t (accepting (preparedOf options)) (refusing OutOfRange)
+
+stroke-accepted : (options : Options) → strokeOf options .number ≡ numberOf accepted → strokeOf options ≡ accepting (strokeOf options .stroke)
+unfolding strokeOf
+stroke-accepted options = go (inRange options)
+  where
+    go : (t : Bool) → strokedAs options t .number ≡ numberOf accepted → strokedAs options t ≡ accepting (strokedAs options t .stroke)
+    go true e = refl
+    go false e = absurd (eqb-false 1 0 refl e)
+
+module _ (verbs : List ℕ) (coords : List Float) (options : Options) (n m : ℕ) (e : measureOf verbs coords options ≡ withCounts (numberOf accepted) n m) where
+  abbrev o : Stroke
+  o = strokeOf options .stroke
+
+  first : (strokeOf options .number ≡ numberOf accepted) × (measureOf verbs coords options ≡ measuredOf verbs coords o)
+  unfolding measureOf
+  first = once-accepted (strokeOf options .number) (strokeOf options .place) (measuredOf verbs coords o) (ap (λ (a : MeshAnswer). a .number) e)
+
+  then : (checkedOf verbs coords .number ≡ numberOf accepted) × (measuredOf verbs coords o ≡ countsOf o (runsOf verbs coords))
+  unfolding measuredOf
+  then = once-accepted (checkedOf verbs coords .number) (checkedOf verbs coords .place) (countsOf o (runsOf verbs coords)) (ap (λ (a : MeshAnswer). a .number) (sym (first .1) ∙ e))
+
+  counts : countsOf o (runsOf verbs coords) ≡ withCounts (numberOf accepted) n m
+  counts = sym (then .1) ∙ sym (first .1) ∙ e
+
+  pub measured-earns : EarnsNone verbs coords options o
+  measured-earns = record { within = stroke-accepted options (first .0); accepted = then .0 }
+
+  module _ (l : Lists) where
+    abbrev rooms : Roomed o (runsOf verbs coords) l (outcomeOf verbs coords options l)
+    rooms = demand-3 verbs coords options o measured-earns l .rooms
+
+    vertices-are : meshCount o (runsOf verbs coords) ≡ n
+    vertices-are = ap (λ (a : MeshAnswer). a .vertices) counts
+
+    triangles-are : length (meshTriangles o 0 (runsOf verbs coords)) ≡ m
+    triangles-are = ap (λ (a : MeshAnswer). a .triangles) counts
+
+    room-enough : 5 * n ≤ length (l .vertices) → n ≤ length (l .sources) → 3 * m ≤ length (l .triangles) → outcomeOf verbs coords options l .answer ≡ withCounts (numberOf accepted) n m
+    room-enough h i g = rw (vertices-are, triangles-are) at (rooms .enough (omega (arith, vertices-are, h)) (omega (arith, vertices-are, i)) (omega (arith, triangles-are, g)) .answer)
+
+    pub measured-room : MeasuredRoom verbs coords options n m l
+    measured-room = record {
+      exact = λ h i g. room-enough (omega (arith, h)) (omega (arith, i)) (omega (arith, g));
+      enough = room-enough;
+      fewer-vertices = λ h. rw (vertices-are, triangles-are) at (rooms .few-vertices (omega (arith, vertices-are, h)));
+      fewer-sources = λ h. rw (vertices-are, triangles-are) at (rooms .few-sources (omega (arith, vertices-are, h)));
+      fewer-triangles = λ h i g. rw (vertices-are, triangles-are) at (rooms .few-triangles (omega (arith, vertices-are, h)) (omega (arith, vertices-are, i)) (omega (arith, triangles-are, g)));
+    }
