@@ -1,7 +1,8 @@
 //! One answer to each line, over either implementation of the routines.
 
-use crate::case::{widened, Call, CapCase, Case, JoinCase, ListCase, MeshCase, NarrowCase, Op};
-use crate::case::{RadioCase, ReadCase, StlReadCase, StlWriteCase, WidenCase};
+use crate::case::{widened, Call, CapCase, Case, JoinCase, ListCase, MeasureCase, MeshCase};
+use crate::case::{NarrowCase, Op, PartCase, RadioCase, ReadCase, StlReadCase, StlWriteCase};
+use crate::case::{WidenCase, MAX_TRIANGLE_LIST};
 use crate::endpoint::{Endpoint, EndpointId, LineJoin, Points, NEGATIVE, POSITIVE};
 use crate::line::{filled_floats, filled_numbers, float_word, Line};
 use crate::outcome::{Outcome, Refusal};
@@ -10,7 +11,7 @@ use crate::plane::{point, vector};
 use crate::routines::Routines;
 use crate::vertices::Mesh;
 use crate::window::Window;
-use crate::{inspect, mesh, normal, reader, root, stl, widths};
+use crate::{inspect, mesh, normal, part, reader, root, stl, widths};
 
 /// The answer to a line, without line feeds on either.
 pub fn answer<R: Routines>(line: &[u8]) -> String {
@@ -36,6 +37,8 @@ pub fn answer_case<R: Routines>(case: &Case) -> String {
         Case::Check(case) => answer_list("check", inspect::check, case),
         Case::Attached(case) => answer_list("attached", inspect::attached, case),
         Case::Radio(case) => answer_radio(case),
+        Case::Measure(case) => answer_measure::<R>(case),
+        Case::Part(case) => answer_part::<R>(case),
     }
 }
 
@@ -66,6 +69,44 @@ fn answer_mesh<R: Routines>(case: &MeshCase) -> String {
         .floats(&vertices)
         .numbers(&sources)
         .numbers(&triangles)
+        .done()
+}
+
+fn answer_measure<R: Routines>(case: &MeasureCase) -> String {
+    let path = Path {
+        verbs: &case.verbs,
+        coordinates: &case.coordinates,
+    };
+    outcome("measure", part::measure::<R>(path, case.options)).done()
+}
+
+/// The list is first written by the mesh call, with room for all sources and triangles: a
+/// mesh that the longest vertex list holds has no more triangles than vertices.
+fn answer_part<R: Routines>(case: &PartCase) -> String {
+    let mut vertices = filled_floats(case.vertex_len);
+    let mut sources = filled_numbers(MAX_TRIANGLE_LIST);
+    let mut triangles = filled_numbers(MAX_TRIANGLE_LIST);
+    let path = Path {
+        verbs: &case.verbs,
+        coordinates: &case.coordinates,
+    };
+    mesh::mesh::<R>(
+        path,
+        case.options,
+        &mut vertices,
+        &mut sources,
+        &mut triangles,
+    );
+    let (number, place, part) = match part::part::<R>(path, case.options, case.run, vertices.len())
+    {
+        Ok(part) => (0, 0, part),
+        Err(refusal) => (refusal.number, refusal.place, 0..0),
+    };
+    Line::new("part")
+        .number(number as usize)
+        .number(place)
+        .number(part.start)
+        .floats(&vertices[part])
         .done()
 }
 

@@ -29,6 +29,8 @@ pub enum Case {
     Check(ListCase),
     Attached(ListCase),
     Radio(RadioCase),
+    Measure(MeasureCase),
+    Part(PartCase),
 }
 
 #[derive(Clone, Debug, PartialEq)]
@@ -94,6 +96,23 @@ pub enum Call {
     Close,
 }
 
+/// What is measured.
+#[derive(Clone, Debug, PartialEq)]
+pub struct MeasureCase {
+    pub options: Options,
+    pub verbs: Vec<u8>,
+    pub coordinates: Vec<f32>,
+}
+
+#[derive(Clone, Debug, PartialEq)]
+pub struct PartCase {
+    pub options: Options,
+    pub run: usize,
+    pub vertex_len: usize,
+    pub verbs: Vec<u8>,
+    pub coordinates: Vec<f32>,
+}
+
 #[derive(Clone, Copy, Debug, PartialEq, Eq)]
 pub enum Op {
     Push(usize),
@@ -143,6 +162,8 @@ impl Case {
             b"check" => Case::Check(list(&mut words)?),
             b"attached" => Case::Attached(list(&mut words)?),
             b"radio" => Case::Radio(radio(&mut words)?),
+            b"measure" => Case::Measure(measure(&mut words)?),
+            b"part" => Case::Part(part(&mut words)?),
             _ => return None,
         };
         words.end()?;
@@ -190,19 +211,42 @@ impl Case {
             Case::Check(case) => list_line("check", case),
             Case::Attached(case) => list_line("attached", case),
             Case::Radio(case) => radio_line(case),
+            Case::Measure(case) => options_line("measure", &case.options)
+                .bytes(&case.verbs)
+                .floats(&case.coordinates)
+                .done(),
+            Case::Part(case) => options_line("part", &case.options)
+                .number(case.run)
+                .number(case.vertex_len)
+                .bytes(&case.verbs)
+                .floats(&case.coordinates)
+                .done(),
         }
     }
 }
 
+fn options(words: &mut Words) -> Option<Options> {
+    Some(Options {
+        width: words.float()?,
+        limit: words.float()?,
+        join: words.number(255)? as u8,
+        cap: words.number(255)? as u8,
+        merge: words.float()?,
+    })
+}
+
+fn options_line(kind: &str, options: &Options) -> Line {
+    Line::new(kind)
+        .float(options.width)
+        .float(options.limit)
+        .number(usize::from(options.join))
+        .number(usize::from(options.cap))
+        .float(options.merge)
+}
+
 fn mesh(words: &mut Words) -> Option<MeshCase> {
     Some(MeshCase {
-        options: Options {
-            width: words.float()?,
-            limit: words.float()?,
-            join: words.number(255)? as u8,
-            cap: words.number(255)? as u8,
-            merge: words.float()?,
-        },
+        options: options(words)?,
         vertex_len: words.number(MAX_VERTEX_LIST)?,
         source_len: words.number(MAX_TRIANGLE_LIST)?,
         triangle_len: words.number(MAX_TRIANGLE_LIST)?,
@@ -212,12 +256,7 @@ fn mesh(words: &mut Words) -> Option<MeshCase> {
 }
 
 fn mesh_line(case: &MeshCase) -> String {
-    Line::new("mesh")
-        .float(case.options.width)
-        .float(case.options.limit)
-        .number(usize::from(case.options.join))
-        .number(usize::from(case.options.cap))
-        .float(case.options.merge)
+    options_line("mesh", &case.options)
         .number(case.vertex_len)
         .number(case.source_len)
         .number(case.triangle_len)
@@ -315,6 +354,25 @@ fn radio_line(case: &RadioCase) -> String {
             Call::Close => line.word("!"),
         })
         .done()
+}
+
+fn measure(words: &mut Words) -> Option<MeasureCase> {
+    Some(MeasureCase {
+        options: options(words)?,
+        verbs: words.bytes()?,
+        coordinates: words.list(Words::float)?,
+    })
+}
+
+/// A run's number is any number.
+fn part(words: &mut Words) -> Option<PartCase> {
+    Some(PartCase {
+        options: options(words)?,
+        run: words.number(usize::MAX)?,
+        vertex_len: words.number(MAX_VERTEX_LIST)?,
+        verbs: words.bytes()?,
+        coordinates: words.list(Words::float)?,
+    })
 }
 
 fn op(word: &[u8]) -> Option<Op> {

@@ -3,7 +3,7 @@
 //!
 //! From the leaves up: `plane`, `root`, `normal`, `endpoint`, `window`, `edge`, `join`,
 //! `vertices` (the reading of the routines), `routines` (what the driver asks of them), `path`,
-//! `strip`, `mesh` (the driver), `decimal`, `reader`, `program`, `stl`, `widths`, `inspect`. `shim` and `text` hold the cut text.
+//! `strip`, `mesh`, `part` (the driver), `decimal`, `reader`, `program`, `stl`, `widths`, `inspect`. `shim` and `text` hold the cut text.
 //! `line`, `case`, `answer` are the cases and answers, `gen` makes cases.
 
 pub mod answer;
@@ -18,6 +18,7 @@ pub mod line;
 pub mod mesh;
 pub mod normal;
 pub mod outcome;
+pub mod part;
 pub mod path;
 pub mod plane;
 pub mod program;

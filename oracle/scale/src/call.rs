@@ -1,7 +1,7 @@
 //! One case given to both sides.
 
 use crate::list::List;
-use oracle::case::{Case, ListCase, MeshCase, NarrowCase, ReadCase};
+use oracle::case::{Case, ListCase, MeasureCase, MeshCase, NarrowCase, PartCase, ReadCase};
 use oracle::case::{StlReadCase, StlWriteCase, WidenCase};
 use oracle::gen::Rng;
 use oracle::mesh::mesh;
@@ -12,7 +12,7 @@ use oracle::plane::vector;
 use oracle::reader::read;
 use oracle::root::public_root;
 use oracle::routines::Routines;
-use oracle::{inspect, stl, widths, Judge};
+use oracle::{inspect, part, stl, widths, Judge};
 use stipeharbor::raw;
 
 /// The lists of all calls, kept between cases.
@@ -50,6 +50,8 @@ impl Lists {
             Case::Normal(floats) => self.hold_normal(*floats, length),
             Case::StlWrite(case) => self.hold_stl_write(case),
             Case::StlRead(case) => self.hold_stl_read(case),
+            Case::Measure(case) => self.hold_measure(case),
+            Case::Part(case) => self.hold_part(case),
             Case::Widen(case) => self.hold_widen(case),
             Case::Narrow(case) => self.hold_narrow(case),
             Case::Check(case) => self.hold_list(case, raw::check, inspect::check),
@@ -94,6 +96,73 @@ impl Lists {
         alike(self.vertices.difference("vertices"))?;
         alike(self.sources.difference("sources"))?;
         alike(self.triangles.difference("triangles"))?;
+        Ok(number)
+    }
+
+    fn hold_measure(&mut self, case: &MeasureCase) -> Held {
+        let options = case.options;
+        let number = raw::measure(
+            &case.verbs,
+            &case.coordinates,
+            options.width,
+            options.limit,
+            options.join.into(),
+            options.cap.into(),
+            options.merge,
+            self.answer.ours(),
+        );
+        let path = Path {
+            verbs: &case.verbs,
+            coordinates: &case.coordinates,
+        };
+        let told = part::measure::<Judge>(path, options);
+        let (n, m) = told.counts;
+        self.answer.expect(&[told.place, n, m]);
+        held(number, told.number)?;
+        alike(self.answer.difference("answer"))?;
+        Ok(number)
+    }
+
+    /// The list is written first, on both sides, with room for all sources and triangles; the call
+    /// leaves it as it is, and where the part stands it holds the same floats.
+    fn hold_part(&mut self, case: &PartCase) -> Held {
+        let answer = std::mem::take(&mut self.answer);
+        self.answer.lend(3);
+        self.hold_mesh(&MeshCase {
+            options: case.options,
+            vertex_len: case.vertex_len,
+            source_len: case.vertex_len / 5,
+            triangle_len: 3 * (case.vertex_len / 5),
+            verbs: case.verbs.clone(),
+            coordinates: case.coordinates.clone(),
+        })?;
+        self.answer = answer;
+        let options = case.options;
+        let number = raw::run_part(
+            &case.verbs,
+            &case.coordinates,
+            options.width,
+            options.limit,
+            options.join.into(),
+            options.cap.into(),
+            options.merge,
+            case.run,
+            self.vertices.ours(),
+            self.answer.ours(),
+        );
+        let path = Path {
+            verbs: &case.verbs,
+            coordinates: &case.coordinates,
+        };
+        let (told, place, part) =
+            match part::part::<Judge>(path, options, case.run, case.vertex_len) {
+                Ok(part) => (0, 0, part),
+                Err(refusal) => (refusal.number, refusal.place, 0..0),
+            };
+        self.answer.expect(&[place, part.start, part.len()]);
+        held(number, told)?;
+        alike(self.answer.difference("answer"))?;
+        alike(self.vertices.difference("vertices"))?;
         Ok(number)
     }
 

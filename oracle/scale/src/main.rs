@@ -25,11 +25,13 @@ enum Of {
     Big,
 }
 
-const KINDS: [(&str, Of); 13] = [
+const KINDS: [(&str, Of); 15] = [
     ("mesh", Of::Call(Kind::Mesh)),
     ("read", Of::Call(Kind::Read)),
     ("root", Of::Call(Kind::Root)),
     ("normal", Of::Call(Kind::Normal)),
+    ("measure", Of::Call(Kind::Measure)),
+    ("part", Of::Call(Kind::Part)),
     ("stlwrite", Of::Call(Kind::StlWrite)),
     ("stlread", Of::Call(Kind::StlRead)),
     ("widen", Of::Call(Kind::Widen)),

@@ -34,7 +34,7 @@ fn main() -> ExitCode {
 
 fn usage() -> ExitCode {
     eprintln!(
-        "cases SEED COUNT mesh|read|root|normal|window|join|cap|stlwrite|stlread|widen|narrow|damaged|check|attached|radio|bad|all"
+        "cases SEED COUNT mesh|read|root|normal|window|join|cap|stlwrite|stlread|widen|narrow|measure|part|damaged|check|attached|radio|bad|all"
     );
     ExitCode::from(2)
 }

@@ -1,6 +1,7 @@
 //! Cases of sizes that no line has: about as many verbs and bytes as are accepted, and lists with
 //! room for all of it, exact or one place short.
 
+use super::parts;
 use super::paths::{long_path, options};
 use super::rng::Rng;
 use super::texts::{full_text, many_verbs};
@@ -12,9 +13,14 @@ use crate::reader::{measure, MAX_TEXT};
 use crate::routines::Reading;
 
 pub fn big(rng: &mut Rng) -> Case {
-    match rng.below(4) {
+    match rng.below(6) {
         0 | 1 => Case::Mesh(mesh(rng)),
         2 => Case::Read(read(rng)),
+        3 => Case::Measure(parts::measure_of(mesh(rng))),
+        4 => {
+            let case = mesh(rng);
+            Case::Part(parts::part_of(rng, case))
+        }
         _ if rng.one_in(2) => Case::Widen(widths::long_widen(rng)),
         _ => Case::Narrow(widths::long_narrow(rng)),
     }

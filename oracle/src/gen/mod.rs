@@ -6,6 +6,7 @@ mod big;
 mod indices;
 mod joins;
 mod meshes;
+mod parts;
 mod paths;
 mod radio;
 mod rng;
@@ -38,6 +39,8 @@ pub enum Kind {
     Check,
     Attached,
     Radio,
+    Measure,
+    Part,
     Bad,
     All,
 }
@@ -59,6 +62,8 @@ impl Kind {
             "check" => Some(Kind::Check),
             "attached" => Some(Kind::Attached),
             "radio" => Some(Kind::Radio),
+            "measure" => Some(Kind::Measure),
+            "part" => Some(Kind::Part),
             "bad" => Some(Kind::Bad),
             "all" => Some(Kind::All),
             _ => None,
@@ -92,6 +97,8 @@ pub fn case(rng: &mut Rng, kind: Kind) -> Case {
         Kind::Check => Case::Check(indices::indices(rng)),
         Kind::Attached => Case::Attached(indices::indices(rng)),
         Kind::Radio => Case::Radio(radio::radio(rng)),
+        Kind::Measure => Case::Measure(parts::measure(rng)),
+        Kind::Part => Case::Part(parts::part(rng)),
         Kind::Bad | Kind::All => {
             let kind = rng.pick(&[
                 Kind::Mesh,
@@ -109,6 +116,8 @@ pub fn case(rng: &mut Rng, kind: Kind) -> Case {
                 Kind::Narrow,
                 Kind::Check,
                 Kind::Attached,
+                Kind::Measure,
+                Kind::Part,
             ]);
             case(rng, kind)
         }

@@ -7,7 +7,7 @@ use oracle::line::{filled_floats, filled_numbers};
 use std::io::Write;
 use std::process::{Command, Stdio};
 
-const KINDS: [Kind; 11] = [
+const KINDS: [Kind; 13] = [
     Kind::Mesh,
     Kind::Read,
     Kind::Root,
@@ -19,6 +19,8 @@ const KINDS: [Kind; 11] = [
     Kind::StlRead,
     Kind::Check,
     Kind::Attached,
+    Kind::Measure,
+    Kind::Part,
 ];
 
 #[test]

@@ -11,6 +11,7 @@ mod inspect;
 mod kept;
 mod lines;
 mod open_points;
+mod parts;
 mod points;
 mod reader;
 mod refusals;
