@@ -22,9 +22,9 @@ pub struct Front {
     pub rest: Place,
 }
 
-struct OptionsRead {
-    options: Options,
-    rest: Place,
+pub struct OptionsRead {
+    pub options: Options,
+    pub rest: Place,
 }
 
 pub fn read_front(line: &[u8], place: Place) -> Front
@@ -49,7 +49,7 @@ pub fn read_front(line: &[u8], place: Place) -> Front
 }
 
 // A join or a cap that the call refuses is in form, as far as it is a byte.
-fn read_options(line: &[u8], place: Place) -> OptionsRead {
+pub fn read_options(line: &[u8], place: Place) -> OptionsRead {
     let width = read(line, place);
     let after_width = width.rest;
     let limit = read(line, after_width);

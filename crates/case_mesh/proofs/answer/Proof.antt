@@ -8,17 +8,14 @@ use Rattle.case_mesh.proofs.answer.Tie as tie
 read-front-requires : tie.Need-read-front-requires
 read-front-requires c κs = search needs
 
-slice-aggregate-read : tie.Need-slice-aggregate-read
-slice-aggregate-read c = search needs
+slice-aggregate-read-path : tie.Need-slice-aggregate-read-path
+slice-aggregate-read-path c = search needs
 
-read-requires : tie.Need-read-requires
-read-requires c κs = search needs
+slice-aggregate-read-path-2 : tie.Need-slice-aggregate-read-path-2
+slice-aggregate-read-path-2 c = search needs
 
-slice-aggregate-read-float-list : tie.Need-slice-aggregate-read-float-list
-slice-aggregate-read-float-list c = search needs
-
-read-float-list-requires : tie.Need-read-float-list-requires
-read-float-list-requires c κs = search needs
+read-path-requires : tie.Need-read-path-requires
+read-path-requires c κs = search needs
 
 is-end-requires : tie.Need-is-end-requires
 is-end-requires c κs = search needs
@@ -30,20 +27,16 @@ returns : tie.Need-returns
 returns c = search needs
 
 array-share-prefix-verbs : tie.Need-array-share-prefix-verbs
-array-share-prefix-verbs c = rw (c .before .before .before .before .before .before .before .read .kept .1 .1 .0) (c .before .before .before .before .before .before .before .read .ensures .1 .0)
+array-share-prefix-verbs c = rw (c .before .before .before .before .before .read-path .kept .1 .1 .0) (c .before .before .before .before .before .read-path .ensures .0)
 
 slice-aggregate-answer-mesh : tie.Need-slice-aggregate-answer-mesh
-slice-aggregate-answer-mesh c =
-    sym
-    (length-take-le (c .before .before .before .before .before .before .before .before .read .result .count) (c .before .before .before .before .before .before .before .before .read .last .1 .1 .0) (array-share-prefix-verbs (c .before)))
+slice-aggregate-answer-mesh c = sym (length-take-le (c .before .before .before .before .before .before .read-path .result .verbs) (c .before .before .before .before .before .before .read-path .last .1 .1 .0) (array-share-prefix-verbs (c .before)))
 
 array-share-prefix-coords : tie.Need-array-share-prefix-coords
-array-share-prefix-coords c = rw (c .before .before .before .before .before .read-float-list .kept .1 .1 .0) (c .before .before .before .before .before .read-float-list .ensures)
+array-share-prefix-coords c = rw (c .before .before .before .before .before .before .read-path .kept .1 .1 .1 .0) (c .before .before .before .before .before .before .read-path .ensures .1)
 
 slice-aggregate-answer-mesh-2 : tie.Need-slice-aggregate-answer-mesh-2
-slice-aggregate-answer-mesh-2 c =
-    sym
-    (length-take-le (c .before .before .before .before .before .before .read-float-list .result .count) (c .before .before .before .before .before .before .read-float-list .last .1 .1 .0) (array-share-prefix-coords (c .before)))
+slice-aggregate-answer-mesh-2 c = sym (length-take-le (c .before .before .before .before .before .before .before .read-path .result .coords) (c .before .before .before .before .before .before .before .read-path .last .1 .1 .1 .0) (array-share-prefix-coords (c .before)))
 
 answer-mesh-requires : tie.Need-answer-mesh-requires
 answer-mesh-requires c κs = search needs
@@ -56,10 +49,9 @@ answer-spec =
     tie.close
     (tie.spec
     read-front-requires
-    slice-aggregate-read
-    read-requires
-    slice-aggregate-read-float-list
-    read-float-list-requires
+    slice-aggregate-read-path
+    slice-aggregate-read-path-2
+    read-path-requires
     is-end-requires
     bad-line-requires
     returns

@@ -1,0 +1,3 @@
+// The answers to `measure` and `part` lines.
+pub mod measuring;
+pub mod parting;
