@@ -39,6 +39,7 @@ enum stipeharbor_number {
     STIPEHARBOR_CORNER = 16,        /* the triangle at the place has a corner that is not finite, a z that is not zero or, in writing, a number that has no vertex */
     STIPEHARBOR_LIST_ROOM = 17,     /* the list is too short for the STL file's corners, or to widen or narrow into */
     STIPEHARBOR_WIDE_NUMBER = 18,   /* the number at the place is above STIPEHARBOR_NARROW_MOST */
+    STIPEHARBOR_NO_RUN = 19,        /* the path has no run of that number */
     STIPEHARBOR_LIST_LENGTH = 20,   /* the index list's length is no multiple of three */
     STIPEHARBOR_NUMBER_TOO_LARGE = 21, /* the number at the place of the index list is not below the vertex count */
     STIPEHARBOR_TWO_ALIKE = 22,     /* the triangle at the place names a vertex twice */
@@ -79,7 +80,7 @@ enum stipeharbor_number {
  * down; of `sources` its length. Vertex room is the smaller of the two lists'.
  * A point whose squared distance to the last one kept is below `merge_range` squared, both in floats, is left out, and so are the last ones of a closed run that
  * are so near its first. The least range leaves out what is too near to be drawn; plans traced by hand want more.
- * Refusals 1 to 4, 6 and 7; one leaves `vertices`, `sources` and `triangles` as they were. With all three lengths 0 the counts can be asked for: 6 carries them, or 0 where they are 0.
+ * Refusals 1 to 4, 6 and 7; one leaves `vertices`, `sources` and `triangles` as they were. How much room there has to be is what stipeharbor_measure answers.
  * `answer` gets the place (of 3 and 4, else 0), the number of vertices and the number of triangles (of 0, 6 and 7, else 0). */
 uint32_t stipeharbor_tessellate(
     const uint8_t *verbs, size_t verbs_len,
@@ -92,6 +93,37 @@ uint32_t stipeharbor_tessellate(
     float *vertices, size_t vertices_len,
     uint32_t *sources, size_t sources_len,
     uint32_t *triangles, size_t triangles_len,
+    size_t *answer, size_t answer_len);
+
+/* Measures the mesh that stipeharbor_tessellate would write: with 5 floats and 1 source to a vertex and 3 numbers to a triangle as it answers them, writing is not
+ * refused for want of room; with one place less in any list that needs one it is.
+ * Refusals 1 to 4.
+ * `answer` gets the place (of 3 and 4, else 0), the number of vertices and the number of triangles (of 0, else 0). */
+uint32_t stipeharbor_measure(
+    const uint8_t *verbs, size_t verbs_len,
+    const float *coords, size_t coords_len,
+    float width,
+    float miter_limit,
+    uint32_t line_join,
+    uint32_t line_cap,
+    float merge_range,
+    size_t *answer, size_t answer_len);
+
+/* Finds the part of `vertices`, a list that stipeharbor_tessellate wrote for this path and these options, that the run of the number `run` wrote; runs are counted from 0
+ * over the begin verbs. The part is vertices[start] .. vertices[start + length - 1]. A run that drew nothing has an empty part, and so has a refusal: start and length are 0.
+ * Only the list's length is looked at, and the list of sources plays no role.
+ * Refusals 1 to 4, then 6 where `vertices` is too short for the whole mesh, then 19.
+ * `answer` gets the place (of 3 and 4, else 0), the part's start and its length, both in floats. */
+uint32_t stipeharbor_run_part(
+    const uint8_t *verbs, size_t verbs_len,
+    const float *coords, size_t coords_len,
+    float width,
+    float miter_limit,
+    uint32_t line_join,
+    uint32_t line_cap,
+    float merge_range,
+    size_t run,
+    const float *vertices, size_t vertices_len,
     size_t *answer, size_t answer_len);
 
 /* Of a vertex's source: the number of the endpoint that it came from, counted from 0 over the begin and line verbs of the whole path, those whose points are left

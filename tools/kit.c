@@ -49,6 +49,33 @@ static void sources_told(void)
     expect(sources[4] == 9, "a record that is not asked for is left alone");
 }
 
+/* Width, limit, join, cap and merge range. */
+#define STROKE 2.0f, 4.0f, STIPEHARBOR_MITER, STIPEHARBOR_BUTT, STIPEHARBOR_MERGE_RANGE_LEAST
+
+/* Three runs of which the second draws nothing: measured, written with just that room and a place less, and taken apart again. W-210's traps. */
+static void measured(void)
+{
+    static const uint8_t verbs[] = {0, 1, 2, 0, 2, 0, 1, 2};
+    static const float coords[] = {0.0f, 0.0f, 8.0f, 0.0f, 4.0f, 4.0f, 0.0f, 8.0f, 8.0f, 8.0f};
+    float vertices[40];
+    uint32_t sources[8], triangles[12];
+    size_t answer[4] = {UNTOUCHED, UNTOUCHED, UNTOUCHED, UNTOUCHED};
+    expect(stipeharbor_measure(verbs, 8, coords, 10, STROKE, answer, 4) == STIPEHARBOR_ACCEPTED && answer[0] == 0 && answer[1] == 8 && answer[2] == 4 && answer[3] == UNTOUCHED,
+           "three runs are measured");
+    expect(stipeharbor_measure(verbs + 1, 7, coords, 10, STROKE, answer, 3) == STIPEHARBOR_VERB && answer[0] == 0 && answer[1] == 0 && answer[2] == 0, "what is refused has no counts");
+    expect(stipeharbor_tessellate(verbs, 8, coords, 10, STROKE, vertices, 39, sources, 8, triangles, 12, NULL, 0) == STIPEHARBOR_VERTEX_ROOM, "a float less is refused");
+    expect(stipeharbor_tessellate(verbs, 8, coords, 10, STROKE, vertices, 40, sources, 7, triangles, 12, NULL, 0) == STIPEHARBOR_VERTEX_ROOM, "a source less is refused");
+    expect(stipeharbor_tessellate(verbs, 8, coords, 10, STROKE, vertices, 40, sources, 8, triangles, 11, NULL, 0) == STIPEHARBOR_TRIANGLE_ROOM, "a number less is refused");
+    expect(stipeharbor_tessellate(verbs, 8, coords, 10, STROKE, vertices, 40, sources, 8, triangles, 12, NULL, 0) == STIPEHARBOR_ACCEPTED, "the measured room does");
+    expect(stipeharbor_run_part(verbs, 8, coords, 10, STROKE, 2, vertices, 40, answer, 3) == STIPEHARBOR_ACCEPTED && answer[0] == 0 && answer[1] == 20 && answer[2] == 20 && vertices[20] == 0.0f
+               && vertices[21] == 9.0f,
+           "the third run's part is the second half");
+    expect(stipeharbor_run_part(verbs, 8, coords, 10, STROKE, 1, vertices, 40, answer, 3) == STIPEHARBOR_ACCEPTED && answer[1] == 0 && answer[2] == 0, "the second run's part is empty");
+    expect(stipeharbor_run_part(verbs, 8, coords, 10, STROKE, 3, vertices, 40, answer, 3) == STIPEHARBOR_NO_RUN && answer[1] == 0 && answer[2] == 0, "there is no fourth run");
+    expect(stipeharbor_run_part(verbs, 8, coords, 10, STROKE, 9, vertices, 39, NULL, 0) == STIPEHARBOR_VERTEX_ROOM, "want of room is told before a number that no run has");
+    expect(stipeharbor_run_part(NULL, 0, NULL, 0, STROKE, 0, NULL, 0, NULL, 0) == STIPEHARBOR_NO_RUN && stipeharbor_measure(NULL, 0, NULL, 0, STROKE, NULL, 0) == STIPEHARBOR_ACCEPTED, "no verbs have no run");
+}
+
 static void nulls(void)
 {
     expect(stipeharbor_read(NULL, 0, NULL, 0, NULL, 0, NULL, 0) == STIPEHARBOR_ACCEPTED, "the empty text is a path");
@@ -133,6 +160,7 @@ int main(void)
 {
     short_answers();
     sources_told();
+    measured();
     nulls();
     values();
     stl();

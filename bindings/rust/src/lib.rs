@@ -1,4 +1,4 @@
-//! The proved library's ten calls in safe Rust. A path goes in; the mesh of its stripe or one
+//! The proved library's twelve calls in safe Rust. A path goes in; the mesh of its stripe or one
 //! [`Refusal`] comes out.
 //!
 //! ```
@@ -151,7 +151,7 @@ pub struct Path {
 
 /// Strokes a path. A vertex is five floats (x, y, the normal's x and y, the advancement) and has
 /// its [`Source`] in a list of their own; a triangle is three vertex numbers.
-/// With three empty lists the refusal [`Refusal::VertexRoom`] says how many of each there are to be.
+/// [`measure`] says how many of each there are to be, before a list is lent.
 pub fn tessellate(
     verbs: &[u8],
     coordinates: &[f32],
@@ -179,6 +179,55 @@ pub fn tessellate(
         vertices: n,
         triangles: m,
     })
+}
+
+/// Measures the mesh that [`tessellate`] would write. With exactly this room, five floats and one
+/// source to a vertex and three numbers to a triangle, writing is not refused for want of room.
+pub fn measure(verbs: &[u8], coordinates: &[f32], options: Options) -> Result<Mesh, Refusal> {
+    let mut answer = [0; 3];
+    let number = raw::measure(
+        verbs,
+        coordinates,
+        options.width,
+        options.miter_limit,
+        options.join as u32,
+        options.cap as u32,
+        options.merge_range,
+        &mut answer,
+    );
+    let [place, n, m] = answer;
+    Refusal::or(number, place, n, m).map(|()| Mesh {
+        vertices: n,
+        triangles: m,
+    })
+}
+
+/// The part of a vertex list that [`tessellate`] wrote for this path and these options, that the
+/// run of the number `run`, from 0 over the begin verbs, wrote; empty where it drew nothing.
+/// A list too short for the whole mesh is refused before a number that no run has, with counts of 0:
+/// [`measure`] has them.
+pub fn run_vertices<'a>(
+    verbs: &[u8],
+    coordinates: &[f32],
+    options: Options,
+    run: usize,
+    vertices: &'a [f32],
+) -> Result<&'a [f32], Refusal> {
+    let mut answer = [0; 3];
+    let number = raw::run_part(
+        verbs,
+        coordinates,
+        options.width,
+        options.miter_limit,
+        options.join as u32,
+        options.cap as u32,
+        options.merge_range,
+        run,
+        vertices,
+        &mut answer,
+    );
+    let [place, start, length] = answer;
+    Refusal::or(number, place, 0, 0).map(|()| &vertices[start..start + length])
 }
 
 /// Reads path text (M, L, H, V and Z in either case, decimals of up to six places) into the two lists

@@ -1,4 +1,4 @@
-//! The ten calls as C has them, on slices: each returns the number, and writes what it stands for
+//! The twelve calls as C has them, on slices: each returns the number, and writes what it stands for
 //! over the start of its last list, as far as that goes. Joins and caps are numbers here, any at
 //! all. No other file has `unsafe`.
 
@@ -31,6 +31,35 @@ extern "C" {
         verbs_len: usize,
         coords: *mut f32,
         coords_len: usize,
+        answer: *mut usize,
+        answer_len: usize,
+    ) -> u32;
+    fn stipeharbor_measure(
+        verbs: *const u8,
+        verbs_len: usize,
+        coords: *const f32,
+        coords_len: usize,
+        width: f32,
+        miter_limit: f32,
+        line_join: u32,
+        line_cap: u32,
+        merge_range: f32,
+        answer: *mut usize,
+        answer_len: usize,
+    ) -> u32;
+    fn stipeharbor_run_part(
+        verbs: *const u8,
+        verbs_len: usize,
+        coords: *const f32,
+        coords_len: usize,
+        width: f32,
+        miter_limit: f32,
+        line_join: u32,
+        line_cap: u32,
+        merge_range: f32,
+        run: usize,
+        vertices: *const f32,
+        vertices_len: usize,
         answer: *mut usize,
         answer_len: usize,
     ) -> u32;
@@ -149,6 +178,71 @@ pub fn read(text: &[u8], verbs: &mut [u8], coords: &mut [f32], answer: &mut [usi
             verbs.len(),
             coords.as_mut_ptr(),
             coords.len(),
+            answer.as_mut_ptr(),
+            answer.len(),
+        )
+    }
+}
+
+/// `answer` gets the place, the number of vertices and the number of triangles.
+#[allow(clippy::too_many_arguments)] // They are the foreign call's.
+pub fn measure(
+    verbs: &[u8],
+    coords: &[f32],
+    width: f32,
+    miter_limit: f32,
+    line_join: u32,
+    line_cap: u32,
+    merge_range: f32,
+    answer: &mut [usize],
+) -> u32 {
+    // SAFETY: each pair is a live slice's; the one that is written is an exclusive borrow.
+    unsafe {
+        stipeharbor_measure(
+            verbs.as_ptr(),
+            verbs.len(),
+            coords.as_ptr(),
+            coords.len(),
+            width,
+            miter_limit,
+            line_join,
+            line_cap,
+            merge_range,
+            answer.as_mut_ptr(),
+            answer.len(),
+        )
+    }
+}
+
+/// `answer` gets the place, the part's start and its length.
+#[allow(clippy::too_many_arguments)] // They are the foreign call's.
+pub fn run_part(
+    verbs: &[u8],
+    coords: &[f32],
+    width: f32,
+    miter_limit: f32,
+    line_join: u32,
+    line_cap: u32,
+    merge_range: f32,
+    run: usize,
+    vertices: &[f32],
+    answer: &mut [usize],
+) -> u32 {
+    // SAFETY: each pair is a live slice's; the one that is written is an exclusive borrow.
+    unsafe {
+        stipeharbor_run_part(
+            verbs.as_ptr(),
+            verbs.len(),
+            coords.as_ptr(),
+            coords.len(),
+            width,
+            miter_limit,
+            line_join,
+            line_cap,
+            merge_range,
+            run,
+            vertices.as_ptr(),
+            vertices.len(),
             answer.as_mut_ptr(),
             answer.len(),
         )

@@ -73,6 +73,8 @@ pub enum Refusal {
         /// Which number.
         place: usize,
     },
+    /// 19: the path has no run of that number.
+    NoRun,
     /// 20: the index list's length is no multiple of three.
     ListLength,
     /// 21: the number at the place of the index list is not below the vertex count.
@@ -129,6 +131,7 @@ impl Refusal {
             16 => Refusal::Corner { place },
             17 => Refusal::ListRoom,
             18 => Refusal::WideNumber { place },
+            19 => Refusal::NoRun,
             20 => Refusal::ListLength,
             21 => Refusal::NumberTooLarge { place },
             22 => Refusal::TwoAlike { place },
@@ -157,6 +160,7 @@ impl Refusal {
             Refusal::Corner { .. } => 16,
             Refusal::ListRoom => 17,
             Refusal::WideNumber { .. } => 18,
+            Refusal::NoRun => 19,
             Refusal::ListLength => 20,
             Refusal::NumberTooLarge { .. } => 21,
             Refusal::TwoAlike { .. } => 22,

@@ -1,6 +1,7 @@
 //! Each refusal, on its smallest input, and what an accepted call answers.
 
 use stipeharbor::{check, check_attached, compute_normal, read, root, tessellate};
+use stipeharbor::{measure, run_vertices};
 use stipeharbor::{narrow, stl_corners, stl_file, stl_read, stl_write, widen};
 use stipeharbor::{Cap, Join, Mesh, Options, Path, Refusal, BEGIN, END_CLOSED, END_OPEN, LINE};
 use stipeharbor::{Side, Source};
@@ -87,6 +88,31 @@ fn of_room() {
             triangles
         })
     );
+}
+
+/// Three runs of which the second draws nothing: measured, written with just that room, and taken
+/// apart again.
+#[test]
+fn of_runs() {
+    let verbs = [
+        BEGIN, LINE, END_OPEN, BEGIN, END_OPEN, BEGIN, LINE, END_OPEN,
+    ];
+    let coordinates = [0.0, 0.0, 8.0, 0.0, 4.0, 4.0, 0.0, 8.0, 8.0, 8.0];
+    let mesh = measure(&verbs, &coordinates, OPTIONS).expect("a path");
+    assert_eq!((mesh.vertices, mesh.triangles), (8, 4));
+    let mut v = vec![0.0; 5 * mesh.vertices];
+    let mut s = vec![Source::default(); mesh.vertices];
+    let mut t = vec![0; 3 * mesh.triangles];
+    let written = tessellate(&verbs, &coordinates, OPTIONS, &mut v, &mut s, &mut t);
+    assert_eq!(written, Ok(mesh));
+    let part = |run, list| run_vertices(&verbs, &coordinates, OPTIONS, run, list);
+    assert_eq!(part(0, &v), Ok(&v[..20]));
+    assert_eq!(part(1, &v), Ok(&[][..]));
+    assert_eq!(part(2, &v), Ok(&v[20..]));
+    assert_eq!(part(3, &v), Err(Refusal::NoRun));
+    assert_eq!(part(9, &v[..39]).map_err(Refusal::number), Err(6));
+    let first = measure(&verbs[1..], &coordinates, OPTIONS);
+    assert_eq!(first, Err(Refusal::Verb { place: 0 }));
 }
 
 #[test]

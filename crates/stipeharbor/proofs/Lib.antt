@@ -1,4 +1,5 @@
--- `Unique` says that each exported call has one outcome. `Putting` and `Passing` are for the functions: short lists, and answers passed on.
+-- `Unique` and `Measures` say that each exported call has one outcome. `Putting` and `Passing` are for the functions: short lists, and answers passed on.
 pub mod Putting
 pub mod Passing
 pub mod Unique
+pub mod Measures

@@ -1,2 +1,3 @@
--- `Calls` is what the ten exported calls answer and leave in the lent lists, over what the library's calls answer.
+-- `Calls` is what the exported calls answer and leave in the lent lists, over what the library's calls answer; `Measuring` those of W-210.
 pub mod Calls
+pub mod Measuring
