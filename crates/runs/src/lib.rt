@@ -13,8 +13,9 @@ use pieces::Index;
 use pieces::Place;
 use pieces::next_vertex;
 use run::draw_run;
-ghost use mathlib.Core.Bool.{cond};
+ghost use mathlib.Core.Bool.{false, cond};
 ghost use mathlib.Core.Path.{_≡_};
+ghost use Rattle.path.specs.Verbs.{names};
 ghost use Rattle.pieces.specs.Piece.{lent, Fits, Passes};
 ghost use Rattle.kept.specs.Points.{endpointsOf};
 ghost use Rattle.runs.specs.Runs.{runsOf, meshPiece};
@@ -31,8 +32,9 @@ fn place_of(write: bool, place: usize) -> usize
     0
 }
 
-// A verb that ends a run draws it, in the parts of the lists that begin where the last run ended.
-fn draw_verb(
+// The run that a verb ends is drawn, in the parts of the lists that begin where the last run ended. Two passes call it, so that it is a call of
+// its own to the compiler, and a verb that names a point costs neither of them one.
+fn draw_ended(
     v: &mut [f32],
     src: &mut [u32],
     t: &mut [Index],
@@ -43,12 +45,10 @@ fn draw_verb(
 ) -> Place
     requires { ⌜ Inside g (now coords) ⌝ }
     requires { ⌜ Fits (pass .write) (g .place) (meshPiece (pass .stroke) (g .place) (endedOf g verb (endpointsOf 0 (now coords)))) (lent (now v) (now src) (now t)) ⌝ }
+    requires { ⌜ names verb ≡ false ⌝ }
     ensures { λ r. ⌜ Passes (pass .write) (g .place) (meshPiece (pass .stroke) (g .place) (endedOf g verb (endpointsOf 0 (now (coords .entry))))) (lent (now (v .entry)) (now (src .entry)) (now (t .entry))) (lent (now (v .exit)) (now (src .exit)) (now (t .exit))) r ⌝ }
 {
     let place = g.place;
-    if names_point(verb) {
-        return place;
-    }
     let first = g.first;
     let i = first.0 as usize;
     let from = 2 * i;
@@ -75,6 +75,28 @@ fn draw_verb(
         vertices: place.vertices + run.vertices,
         triangles: place.triangles + run.triangles,
     }
+}
+
+// Only a verb that ends a run draws.
+fn draw_verb(
+    v: &mut [f32],
+    src: &mut [u32],
+    t: &mut [Index],
+    pass: Pass,
+    coords: &[f32],
+    g: Cursor,
+    verb: u8,
+) -> Place
+    requires { ⌜ Inside g (now coords) ⌝ }
+    requires { ⌜ Fits (pass .write) (g .place) (meshPiece (pass .stroke) (g .place) (endedOf g verb (endpointsOf 0 (now coords)))) (lent (now v) (now src) (now t)) ⌝ }
+    ensures { λ r. ⌜ Passes (pass .write) (g .place) (meshPiece (pass .stroke) (g .place) (endedOf g verb (endpointsOf 0 (now (coords .entry))))) (lent (now (v .entry)) (now (src .entry)) (now (t .entry))) (lent (now (v .exit)) (now (src .exit)) (now (t .exit))) r ⌝ }
+{
+    if names_point(verb) {
+        return g.place;
+    }
+    // A copy, so that the pass keeps its own cursor in registers.
+    let ended = g;
+    draw_ended(v, src, t, pass, coords, ended, verb)
 }
 
 pub fn draw_runs(

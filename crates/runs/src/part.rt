@@ -1,7 +1,8 @@
 // A pass that only counts: what all runs need and, of the run that is asked for, which of the vertices are its own.
+use crate::cursor::Cursor;
 use crate::cursor::moved;
 use crate::cursor::start;
-use crate::draw_verb;
+use crate::draw_ended;
 use along::Pass;
 use options::Stroke;
 use path::verbs::names_point;
@@ -13,10 +14,11 @@ ghost use mathlib.Core.List.{[]};
 ghost use Prim.Native.Nat.{_<_};
 ghost use lib.ListN.{length};
 ghost use Rattle.endpoint.specs.Endpoint.{idLimit};
-ghost use Rattle.pieces.specs.Piece.{lent, Fits};
-ghost use Rattle.runs.specs.Cursor.{undrawn};
+ghost use Rattle.kept.specs.Points.{endpointsOf};
+ghost use Rattle.pieces.specs.Piece.{lent, Fits, Passes};
+ghost use Rattle.runs.specs.Cursor.{undrawn, endedOf};
 ghost use Rattle.runs.specs.Part.{notedOf, toldOf};
-ghost use Rattle.runs.specs.Passes.{Paired};
+ghost use Rattle.runs.specs.Passes.{Paired, Inside};
 ghost use Rattle.runs.specs.Runs.{runsOf, meshPiece};
 
 // How many runs have ended, and the vertices before the run that is asked for and up to its end, as far as they are drawn.
@@ -62,6 +64,30 @@ fn noted(s: Seen, run: usize, verb: u8, drawn: usize) -> Seen
     }
 }
 
+// What a verb draws, counted.
+fn count_verb(
+    v: &mut [f32],
+    src: &mut [u32],
+    t: &mut [Index],
+    stroke: Stroke,
+    coords: &[f32],
+    g: Cursor,
+    verb: u8,
+) -> Place
+    requires { ⌜ Inside g (now coords) ⌝ }
+    requires { ⌜ Fits false (g .place) (meshPiece stroke (g .place) (endedOf g verb (endpointsOf 0 (now coords)))) (lent (now v) (now src) (now t)) ⌝ }
+    ensures { λ r. ⌜ Passes false (g .place) (meshPiece stroke (g .place) (endedOf g verb (endpointsOf 0 (now (coords .entry))))) (lent (now (v .entry)) (now (src .entry)) (now (t .entry))) (lent (now (v .exit)) (now (src .exit)) (now (t .exit))) r ⌝ }
+{
+    if names_point(verb) {
+        return g.place;
+    }
+    let count = Pass {
+        stroke,
+        write: false,
+    };
+    draw_ended(v, src, t, count, coords, g, verb)
+}
+
 fn count_seen(
     v: &mut [f32],
     src: &mut [u32],
@@ -76,10 +102,6 @@ fn count_seen(
     requires { ⌜ Fits false undrawn (meshPiece stroke undrawn (runsOf (now verbs) (now coords))) (lent (now v) (now src) (now t)) ⌝ }
     ensures { λ r. ⌜ r ≡ toldOf stroke run (runsOf (now (verbs .entry)) (now (coords .entry))) ⌝ }
 {
-    let pass = Pass {
-        stroke,
-        write: false,
-    };
     let mut g = start();
     let mut s = Seen {
         ended: 0,
@@ -89,7 +111,7 @@ fn count_seen(
     let mut i: usize = 0;
     while i < verbs.len() {
         let verb = verbs[i];
-        let place = draw_verb(v, src, t, pass, coords, g, verb);
+        let place = count_verb(v, src, t, stroke, coords, g, verb);
         s = noted(s, run, verb, place.vertices);
         g = moved(g, verb, place);
         i += 1;

@@ -13,10 +13,10 @@ use Rattle.runs.proofs.part.count_seen.Statement.{statement}
 use Rattle.runs.proofs.part.count_seen.Tie as tie
 
 abbrev Inv-loop : tie.InvT-loop
-Inv-loop v₀ src₀ t₀ verbs coords run pass g₀ s₀ i₀ v src t g s i = Seeing (pass .stroke) run verbs (endpointsOf 0 coords) (lent v₀ src₀ t₀) i g s (lent v src t) × (length v ≡ length v₀) × (length src ≡ length src₀) × (length t ≡ length t₀)
+Inv-loop v₀ src₀ t₀ stroke verbs coords run g₀ s₀ i₀ v src t g s i = Seeing stroke run verbs (endpointsOf 0 coords) (lent v₀ src₀ t₀) i g s (lent v src t) × (length v ≡ length v₀) × (length src ≡ length src₀) × (length t ≡ length t₀)
 
 abbrev μ-loop : tie.MeasureT-loop
-μ-loop v₀ src₀ t₀ verbs coords run pass g₀ s₀ i₀ v src t g s i = length verbs - i
+μ-loop v₀ src₀ t₀ stroke verbs coords run g₀ s₀ i₀ v src t g s i = length verbs - i
 
 start-requires : tie.Need-start-requires Inv-loop μ-loop
 start-requires c κs = search needs
@@ -27,8 +27,8 @@ loop-holds c = (rw (c .start .ensures) (seeing-none _ _ _ _ _), refl, refl, refl
 shared-slice-read-verb : tie.Need-shared-slice-read-verb Inv-loop μ-loop
 shared-slice-read-verb c = search needs
 
-draw-verb-requires : tie.Need-draw-verb-requires Inv-loop μ-loop
-draw-verb-requires c κs = (going-inside (going (c .before .before .before .before .before .loop .inv .0)) _ (c .before .before .before .before .before .before .before .before .before .before .before .before .pre .0), going-fits (going (c .before .before .before .before .before .loop .inv .0)) (c .before .before .before .before .loop-test .taken) (c .before .before .before .before .before .before .before .before .before .before .before .before .pre .1 .1))
+count-verb-requires : tie.Need-count-verb-requires Inv-loop μ-loop
+count-verb-requires c κs = (going-inside (going (c .before .before .before .before .before .loop .inv .0)) _ (c .before .before .before .before .before .before .before .before .before .before .before .before .pre .0), going-fits (going (c .before .before .before .before .before .loop .inv .0)) (c .before .before .before .before .loop-test .taken) (c .before .before .before .before .before .before .before .before .before .before .before .before .pre .1 .1))
 
 noted-requires : tie.Need-noted-requires Inv-loop μ-loop
 noted-requires c κs = omega (arith, ended-below (c .before .before .before .before .before .before .before .before .before .before .before .before .loop .inv .0), c .before .before .before .before .before .before .before .before .before .before .before .loop-test .taken, c .before .before .before .before .before .before .before .before .before .before .before .before .before .before .before .before .before .before .before .pre .1 .0)
@@ -43,7 +43,7 @@ loop-less : tie.Need-loop-less Inv-loop μ-loop
 loop-less c = omega (arith, c .before .before .before .before .before .before .before .before .before .before .before .before .before .loop-test .taken)
 
 loop-again : tie.Need-loop-again Inv-loop μ-loop
-loop-again c = (rw (c .moved .ensures, c .before .noted .ensures) (seeing-turn (c .before .before .before .before .before .before .before .before .before .before .before .before .before .before .loop .inv .0) (c .before .before .before .before .before .before .before .before .before .before .before .before .before .loop-test .taken) (c .before .before .before .before .before .before .before .before .draw-verb .ensures)), search (needs, c .before .before .before .before .before .before .before .before .before .before .before .before .before .before .loop .inv .1), search (needs, c .before .before .before .before .before .before .before .before .before .before .before .before .before .before .loop .inv .2), search (needs, c .before .before .before .before .before .before .before .before .before .before .before .before .before .before .loop .inv .3))
+loop-again c = (rw (c .moved .ensures, c .before .noted .ensures) (seeing-turn (c .before .before .before .before .before .before .before .before .before .before .before .before .before .before .loop .inv .0) (c .before .before .before .before .before .before .before .before .before .before .before .before .before .loop-test .taken) (c .before .before .before .before .before .before .before .before .count-verb .ensures)), search (needs, c .before .before .before .before .before .before .before .before .before .before .before .before .before .before .loop .inv .1), search (needs, c .before .before .before .before .before .before .before .before .before .before .before .before .before .before .loop .inv .2), search (needs, c .before .before .before .before .before .before .before .before .before .before .before .before .before .before .loop .inv .3))
 
 same-length : tie.Need-same-length Inv-loop μ-loop
 same-length c = c .before .before .loop .inv .1
@@ -66,7 +66,7 @@ count-seen-spec =
     start-requires
     loop-holds
     shared-slice-read-verb
-    draw-verb-requires
+    count-verb-requires
     noted-requires
     moved-requires
     add-i
