@@ -1,5 +1,5 @@
 /* A deck of any size that the library takes, in C: path text on standard input; the page of its mesh, or one refusal, on standard output, as examples/stripe.c prints it.
-   What the lists need is asked for first, with no room lent, and then allocated. The exit status is that of examples/stripe.c.
+   The mesh is measured first, and just the room that it needs is allocated. The exit status is that of examples/stripe.c.
    usage: large [WIDTH LIMIT JOIN CAP MERGE]; without options those of ./stripe. */
 #include <inttypes.h>
 #include <stdio.h>
@@ -35,10 +35,17 @@ static void *room(size_t n, size_t size)
     return list;
 }
 
-static uint32_t stroke(const uint8_t *verbs, const float *coords, const size_t *path, struct options o, size_t vertices, size_t triangles, struct mesh *m)
+/* A mesh in lists of just its room: what was measured is never refused for want of it. */
+static uint32_t stroke(const uint8_t *verbs, const float *coords, const size_t *path, struct options o, struct mesh *m)
 {
-    return stipeharbor_tessellate(verbs, path[1], coords, path[2], o.width, o.limit, o.join, o.cap, o.merge, m->vertices, 5 * vertices, m->sources, vertices, m->triangles, 3 * triangles,
-                                  m->answer, 3);
+    uint32_t number = stipeharbor_measure(verbs, path[1], coords, path[2], o.width, o.limit, o.join, o.cap, o.merge, m->answer, 3);
+    if (number != STIPEHARBOR_ACCEPTED)
+        return number;
+    size_t n = m->answer[1], t = m->answer[2];
+    m->vertices = room(5 * n, sizeof *m->vertices);
+    m->sources = room(n, sizeof *m->sources);
+    m->triangles = room(3 * t, sizeof *m->triangles);
+    return stipeharbor_tessellate(verbs, path[1], coords, path[2], o.width, o.limit, o.join, o.cap, o.merge, m->vertices, 5 * n, m->sources, n, m->triangles, 3 * t, m->answer, 3);
 }
 
 /* The number of the answer; the lists are as long as the mesh asks for. */
@@ -50,14 +57,7 @@ static uint32_t mesh_of(const uint8_t *text, size_t length, struct options o, st
     uint32_t number = stipeharbor_read(text, length, verbs, STIPEHARBOR_VERB_LIMIT, coords, 2 * STIPEHARBOR_VERB_LIMIT, path, 3);
     memcpy(m->answer, path, sizeof path);
     if (number == STIPEHARBOR_ACCEPTED)
-        number = stroke(verbs, coords, path, o, 0, 0, m);
-    if (number == STIPEHARBOR_VERTEX_ROOM) {
-        size_t n = m->answer[1], t = m->answer[2];
-        m->vertices = room(5 * n, sizeof *m->vertices);
-        m->sources = room(n, sizeof *m->sources);
-        m->triangles = room(3 * t, sizeof *m->triangles);
-        number = stroke(verbs, coords, path, o, n, t, m);
-    }
+        number = stroke(verbs, coords, path, o, m);
     free(verbs);
     free(coords);
     return number;

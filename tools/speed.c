@@ -1,5 +1,5 @@
-/* tools/speed.c: strokes one open run of POINTS points REPEAT times, for whoever counts instructions or time around it (docs/SPEED.md).
- * usage: speed gentle|sharp|right plenty|exact POINTS REPEAT; the empty loop is REPEAT 0. Edges are 5 long; Miter 4, Butt, width 2, merge range 1/128.
+/* tools/speed.c: strokes one open run of POINTS points REPEAT times, or measures it, for whoever counts instructions or time around it (docs/SPEED.md).
+ * usage: speed gentle|sharp|right plenty|exact|measure POINTS REPEAT; the empty loop is REPEAT 0. Edges are 5 long; Miter 4, Butt, width 2, merge range 1/128.
  */
 #include "stipeharbor.h"
 #include <stdio.h>
@@ -35,14 +35,18 @@ static uint32_t stroke(size_t n, size_t vertex_floats, size_t vertex_sources, si
     return stipeharbor_tessellate(verbs, n + 1, coords, 2 * n, 2, 4, STIPEHARBOR_MITER, STIPEHARBOR_BUTT, STIPEHARBOR_MERGE_RANGE_LEAST, vertices, vertex_floats, sources, vertex_sources, triangles, triangle_numbers, answer, 3);
 }
 
+static uint32_t measure(size_t n, size_t *answer) {
+    return stipeharbor_measure(verbs, n + 1, coords, 2 * n, 2, 4, STIPEHARBOR_MITER, STIPEHARBOR_BUTT, STIPEHARBOR_MERGE_RANGE_LEAST, answer, 3);
+}
+
 int main(int argc, char **argv) {
     size_t n = argc == 5 ? strtoul(argv[3], 0, 10) : 0, repeat = argc == 5 ? strtoul(argv[4], 0, 10) : 0;
-    if (n < 1 || n > POINTS) return fprintf(stderr, "usage: speed gentle|sharp|right plenty|exact POINTS REPEAT\n"), 2;
+    if (n < 1 || n > POINTS) return fprintf(stderr, "usage: speed gentle|sharp|right plenty|exact|measure POINTS REPEAT\n"), 2;
     fill(argv[1], n);
     size_t answer[3], nv = sizeof vertices / sizeof *vertices, ns = sizeof sources / sizeof *sources, nt = sizeof triangles / sizeof *triangles;
     uint32_t number = stroke(n, nv, ns, nt, answer);
     if (*argv[2] == 'e') nv = 5 * answer[1], ns = answer[1], nt = 3 * answer[2];
-    for (size_t i = 0; i < repeat; i++) number |= stroke(n, nv, ns, nt, answer);
+    for (size_t i = 0; i < repeat; i++) number |= *argv[2] == 'm' ? measure(n, answer) : stroke(n, nv, ns, nt, answer);
     printf("%u: %zu vertices, %zu triangles\n", number, answer[1], answer[2]);
     return number != 0;
 }
