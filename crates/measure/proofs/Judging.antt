@@ -1,6 +1,6 @@
 -- What the passes tell is what the definitions say of the runs; and refusals 1 to 4, whatever would come then. Assumes nothing.
-use Prim.Native.Nat.{ℕ, _+_, _-_, _*_, _/_, _≤_, _<_}
-use mathlib.Core.Path.{_≡_, refl, sym, ap, _∙_}
+use Prim.Native.Nat.{ℕ, _+_, _-_, _*_, _/_, _≤_}
+use mathlib.Core.Path.{_≡_, refl, ap}
 use mathlib.Core.Bool.{Bool, true, false, cond}
 use mathlib.Core.List.{List}
 use native.Mathlib.Omega.{arith}
@@ -13,7 +13,6 @@ use Rattle.refusals.specs.Numbers.{numberOf, verdictOf, accepted, vertexRoom, n
 use Rattle.refusals.specs.declared.Refusal.{Refusal}
 use Rattle.refusals.specs.declared.Refusal.the-variants.{OutOfRange, TooManyVerbs, Verb, Coordinate}
 use Rattle.endpoint.specs.declared.Endpoint.{Endpoint}
-use Rattle.endpoint.specs.Endpoint.{idLimit}
 use Rattle.options.specs.Options.{strokeOf}
 use Rattle.options.specs.declared.Options.{Options}
 use Rattle.options.specs.declared.Stroke.{Stroke}
@@ -24,7 +23,6 @@ use Rattle.pieces.specs.declared.Place.{Place}
 use Rattle.runs.specs.Cursor.{undrawn}
 use Rattle.runs.specs.Part.{runAt, toldOf}
 use Rattle.runs.specs.Runs.{runsOf, meshCount, meshVertices, meshPiece}
-use Rattle.runs.specs.declared.part.Told.{Told}
 use Rattle.runs.proofs.Runs.{length-vertices, count-append}
 use Rattle.mesh.specs.Answer.{withPlace}
 use Rattle.mesh.specs.declared.answer.MeshAnswer.{MeshAnswer}

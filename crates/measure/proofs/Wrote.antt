@@ -8,8 +8,8 @@ use native.Mathlib.Omega.{arith}
 use borrow.Author.Tests.{lt-ltb, le-ltb, eqb-true}
 use lib.Dec.{eqb}
 use lib.Ieee.{Float}
-use lib.ListN.{length, take, drop, take-append-drop, length-append, length-take}
-use lib.Seq.{take-at, drop-at, drop-drop}
+use lib.ListN.{length, take, drop, take-append-drop, length-take}
+use lib.Seq.{take-at, drop-at}
 use Rattle.refusals.specs.Numbers.{numberOf, accepted}
 use Rattle.endpoint.specs.declared.Endpoint.{Endpoint}
 use Rattle.lists.proofs.Laws.{flat-append}

@@ -1,6 +1,6 @@
 -- A pass that only counts, and what it has seen of the run of the number k: `Seeing` goes on verb by verb, as `Going` does (Drawing). Assumes nothing.
 use Prim.Native.Nat.{ℕ, _+_, _≤_, _<_}
-use mathlib.Core.Path.{_≡_, refl, sym, ap, _∙_}
+use mathlib.Core.Path.{_≡_, refl}
 use mathlib.Core.Bool.{Bool, true, false, cond}
 use mathlib.Core.List.{List, [], _∷_, _++_, append-nil}
 use native.Mathlib.Omega.{arith}
@@ -9,7 +9,7 @@ use lib.Dec.{ltb, leb}
 use lib.ListN.{length, take, getD, length-append}
 use lib.Seq.{take-all, take-append-le}
 use Rattle.endpoint.specs.declared.Endpoint.{Endpoint}
-use Rattle.pieces.specs.Piece.{behind, Lists, Passes}
+use Rattle.pieces.specs.Piece.{Lists, Passes}
 use Rattle.pieces.specs.declared.Place.{Place}
 use Rattle.options.specs.declared.Stroke.{Stroke}
 use Rattle.path.specs.Runs.{Run, runsFrom}

@@ -2,11 +2,6 @@ use borrow.Author.Needs.{needs}
 -- `measure::answer::measured_answer_of` meets its contract. Assumes nothing.
 use Rattle.measure.proofs.answer.measured_answer_of.Statement.{statement}
 use Rattle.measure.proofs.answer.measured_answer_of.Tie as tie
-use Rattle.measure.proofs.answer.measured_answer_of.Reads as reads
-use Rattle.measure.proofs.answer.measured_answer_of.Lts as lts
-use Rattle.mesh.proofs.answer.with_counts.Reads as with-counts-reads
-use Rattle.mesh.proofs.answer.with_place.Reads as with-place-reads
-use Rattle.refusals.proofs.verdict_of.Reads as verdict-of-reads
 
 -- src/answer.rt:43:26
 enum-known-answer : tie.Need-enum-known-answer

@@ -2,11 +2,6 @@ use borrow.Author.Needs.{needs}
 -- `measure::answer::part_answer_of` meets its contract. Assumes nothing.
 use Rattle.measure.proofs.answer.part_answer_of.Statement.{statement}
 use Rattle.measure.proofs.answer.part_answer_of.Tie as tie
-use Rattle.measure.proofs.answer.part_answer_of.Reads as reads
-use Rattle.measure.proofs.answer.part_answer_of.Lts as lts
-use Rattle.measure.proofs.answer.with_part.Reads as with-part-reads
-use Rattle.measure.proofs.answer.without_part.Reads as without-part-reads
-use Rattle.refusals.proofs.verdict_of.Reads as verdict-of-reads
 
 -- src/answer.rt:56:21
 enum-known-answer : tie.Need-enum-known-answer

@@ -1,9 +1,9 @@
 -- `measure::part::find_stroked` meets its contract. Assumes nothing.
 use borrow.Author.Needs.{needs}
-use mathlib.Core.Path.{_≡_, sym, ap, _∙_}
+use mathlib.Core.Path.{sym, ap, _∙_}
 use native.Mathlib.Omega.{arith}
 use Rattle.refusals.specs.declared.Verdict.{Verdict}
-use Rattle.path.specs.Path.{Sound, checkAnswerOf}
+use Rattle.path.specs.Path.{checkAnswerOf}
 use Rattle.path.proofs.Laws.{sound}
 use Rattle.mesh.proofs.Rooms.{sound-paired, counts-fit}
 use Rattle.measure.specs.Part.{strokedPartOf}

@@ -5,8 +5,6 @@ use Rattle.measure.specs.Judged.{judgedOf}
 use Rattle.measure.proofs.Judging.{part-none, part-some}
 use Rattle.measure.proofs.part.judged.Statement.{statement}
 use Rattle.measure.proofs.part.judged.Tie as tie
-use Rattle.measure.proofs.part.judged.Reads as reads
-use Rattle.measure.proofs.part.judged.Lts as lts
 
 -- src/part.rt:25:9
 returns : tie.Need-returns

@@ -1,9 +1,7 @@
 -- `measure::part::run_vertices` meets its contract. Assumes nothing.
 use borrow.Author.Needs.{needs}
-use Prim.Native.Nat.{_+_, _≤_}
 use mathlib.Core.Path.{_∙_}
 use native.Mathlib.Omega.{arith}
-use lib.ListN.{length}
 use Rattle.measure.proofs.Judging.{told-within, told-handed}
 use Rattle.measure.proofs.part.run_vertices.Statement.{statement}
 use Rattle.measure.proofs.part.run_vertices.Tie as tie

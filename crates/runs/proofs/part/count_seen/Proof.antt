@@ -28,22 +28,34 @@ shared-slice-read-verb : tie.Need-shared-slice-read-verb Inv-loop μ-loop
 shared-slice-read-verb c = search needs
 
 count-verb-requires : tie.Need-count-verb-requires Inv-loop μ-loop
-count-verb-requires c κs = (going-inside (going (c .before .before .before .before .before .loop .inv .0)) _ (c .before .before .before .before .before .before .before .before .before .before .before .before .pre .0), going-fits (going (c .before .before .before .before .before .loop .inv .0)) (c .before .before .before .before .loop-test .taken) (c .before .before .before .before .before .before .before .before .before .before .before .before .pre .1 .1))
+count-verb-requires c κs =
+    let s = c .before .before .before .before .before .before .before .before .before .before .before .before in
+    let m = going (c .before .before .before .before .before .loop .inv .0) in
+    (going-inside m _ (s .pre .0), going-fits m (c .before .before .before .before .loop-test .taken) (s .pre .1 .1))
 
 noted-requires : tie.Need-noted-requires Inv-loop μ-loop
-noted-requires c κs = omega (arith, ended-below (c .before .before .before .before .before .before .before .before .before .before .before .before .loop .inv .0), c .before .before .before .before .before .before .before .before .before .before .before .loop-test .taken, c .before .before .before .before .before .before .before .before .before .before .before .before .before .before .before .before .before .before .before .pre .1 .0)
+noted-requires c κs =
+    let n = c .before .before .before .before .before .before .before .before .before .before in
+    omega (arith, ended-below (n .before .before .loop .inv .0), n .before .loop-test .taken, n .before .before .before .before .before .before .before .before .before .pre .1 .0)
 
 moved-requires : tie.Need-moved-requires Inv-loop μ-loop
-moved-requires c κs = omega (arith, going-inside (going (c .before .before .before .before .before .before .before .before .before .before .before .before .before .loop .inv .0)) _ (c .before .before .before .before .before .before .before .before .before .before .before .before .before .before .before .before .before .before .before .before .pre .0))
+moved-requires c κs =
+    let n = c .before .before .before .before .before .before .before .before .before .before .before in
+    omega (arith, going-inside (going (n .before .before .loop .inv .0)) _ (n .before .before .before .before .before .before .before .before .before .pre .0))
 
 add-i : tie.Need-add-i Inv-loop μ-loop
-add-i c = omega (arith, c .before .before .before .before .before .before .before .before .before .before .before .before .before .loop-test .taken, c .before .before .before .before .before .before .before .before .before .before .before .before .before .before .before .before .before .before .before .before .before .pre .1 .0)
+add-i c =
+    let n = c .before .before .before .before .before .before .before .before .before .before .before .before in
+    omega (arith, n .before .loop-test .taken, n .before .before .before .before .before .before .before .before .before .pre .1 .0)
 
 loop-less : tie.Need-loop-less Inv-loop μ-loop
 loop-less c = omega (arith, c .before .before .before .before .before .before .before .before .before .before .before .before .before .loop-test .taken)
 
 loop-again : tie.Need-loop-again Inv-loop μ-loop
-loop-again c = (rw (c .moved .ensures, c .before .noted .ensures) (seeing-turn (c .before .before .before .before .before .before .before .before .before .before .before .before .before .before .loop .inv .0) (c .before .before .before .before .before .before .before .before .before .before .before .before .before .loop-test .taken) (c .before .before .before .before .before .before .before .before .count-verb .ensures)), search (needs, c .before .before .before .before .before .before .before .before .before .before .before .before .before .before .loop .inv .1), search (needs, c .before .before .before .before .before .before .before .before .before .before .before .before .before .before .loop .inv .2), search (needs, c .before .before .before .before .before .before .before .before .before .before .before .before .before .before .loop .inv .3))
+loop-again c =
+    let n = c .before .before .before .before .before .before .before .before .before .before .before .before in
+    let inv = n .before .before .loop .inv in
+    (rw (c .moved .ensures, c .before .noted .ensures) (seeing-turn (inv .0) (n .before .loop-test .taken) (c .before .before .before .before .before .before .before .before .count-verb .ensures)), search (needs, inv .1), search (needs, inv .2), search (needs, inv .3))
 
 same-length : tie.Need-same-length Inv-loop μ-loop
 same-length c = c .before .before .loop .inv .1
