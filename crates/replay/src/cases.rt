@@ -30,6 +30,8 @@ pub fn answer(line: &[u8], out: &mut Buffer, p: Printed) -> Printed {
         Kind::Narrow => case_widths::narrowing::answer(line, rest, out, p),
         Kind::Check => case_inspect::answer(Question::Check, line, rest, out, p),
         Kind::Attached => case_inspect::answer(Question::Attached, line, rest, out, p),
+        Kind::Measure => case_measure::measuring::answer(line, rest, out, p),
+        Kind::Part => case_measure::parting::answer(line, rest, out, p),
         Kind::None => bad_line(out, p),
     }
 }
@@ -48,6 +50,8 @@ enum Kind {
     Narrow,
     Check,
     Attached,
+    Measure,
+    Part,
     None,
 }
 
@@ -90,6 +94,12 @@ fn kind_of(word: &[u8]) -> Kind {
     }
     if check::same(word, b"attached") {
         return Kind::Attached;
+    }
+    if check::same(word, b"measure") {
+        return Kind::Measure;
+    }
+    if check::same(word, b"part") {
+        return Kind::Part;
     }
     Kind::None
 }
