@@ -2,11 +2,9 @@
 use reader::answer::ReadAnswer;
 use reader::answer::Reading;
 use reader::answer::read_answer_of;
+use refusals::AFTER_CLOSE;
 ghost use mathlib.Core.Path.{_≡_};
 ghost use Rattle.radio.specs.Answer.{reportOf};
-
-// The number of a call after the closing one with no new start.
-pub const AFTER_CLOSE: u32 = 25;
 
 pub enum Report {
     // What the reader of whole texts would answer.

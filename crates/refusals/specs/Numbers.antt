@@ -54,6 +54,8 @@ pub data Meaning : Type 0 where
   vertexUnnamed : Meaning
   -- "not attached"
   notAttached : Meaning
+  -- W-212: "a call after the closing one with no new start"
+  afterClose : Meaning
 
 abbrev pub numberOf : Meaning → ℕ
 numberOf accepted = 0
@@ -80,6 +82,7 @@ numberOf numberTooLarge = 21
 numberOf twoAlike = 22
 numberOf vertexUnnamed = 23
 numberOf notAttached = 24
+numberOf afterClose = 25
 
 -- a row of the table, with its place
 abbrev pub verdict : Meaning → ℕ → Verdict

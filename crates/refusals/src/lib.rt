@@ -52,6 +52,8 @@ pub const VERTEX_UNNAMED: u32 = 23;
 
 pub const NOT_ATTACHED: u32 = 24;
 
+pub const AFTER_CLOSE: u32 = 25;
+
 // Refusals 1 to 4: what is wrong with the options or the path of a call.
 pub enum Refusal {
     // An option outside its range.
