@@ -3,7 +3,7 @@
 use Prim.Native.Nat.{ℕ, suc, _+_, _≤_, _<_, min}
 use mathlib.Core.Path.{_≡_, refl, sym, ap, _∙_, subst}
 use mathlib.Core.Bool.{Bool, true, false, cond}
-use mathlib.Core.List.{List, [], _∷_, _++_}
+use mathlib.Core.List.{List, [], _∷_}
 use native.Mathlib.Omega.{arith}
 use native.Mathlib.Decide.{decLe}
 use borrow.Author.Tests.{lt-ltb, le-ltb}
@@ -21,11 +21,10 @@ use Rattle.reader.specs.Answer.{textLimit, withPlace, isPath, judgedOf}
 use Rattle.reader.specs.Counts.{addedOf}
 use Rattle.reader.specs.Outcome.{Outcome, refused}
 use Rattle.reader.specs.Pass.{Sheet, calledPut, isOver, Passed, sheetOf, stepped, passOf}
-use Rattle.reader.specs.Read.{endByte, starting, throughOf, readBy, outcomeOf}
+use Rattle.reader.specs.Read.{endByte, starting, throughOf, outcomeOf}
 use Rattle.reader.proofs.Meets.{long-so, short-so}
 use Rattle.reader.proofs.Passing.{stepped-verbs, stepped-coords, pass-place}
-use Rattle.radio.specs.declared.Radio.{Radio}
-use Rattle.radio.specs.Radio.{Tuned, passedOf, tuned, isOpen, atLimit, pastLimit, byteHeard, heardOf, tookBy, judgedBy, endedOf, closedBy, closedWith, closeOf, startedWith, behindTake, takesOf, joined, outcomeIn}
+use Rattle.radio.specs.Radio.{Tuned, passedOf, tuned, atLimit, byteHeard, heardOf, tookBy, judgedBy, endedOf, closedBy, closedWith, closeOf, startedWith, behindTake, takesOf, joined, outcomeIn}
 use Rattle.radio.specs.Answer.{closedAnswer}
 use Rattle.radio.proofs.Fragment.{Open, open-is, one, inside, reached, past, at-limit, heard-append}
 
@@ -133,19 +132,19 @@ length-heard (b ∷ bs) w m =
 
 -- ---- the closing call
 module _ (v : List ℕ) (c : List Float) where
-  fresh : Open (startedWith v c .radio)
+  pub fresh : Open (startedWith v c .radio)
   fresh = record { running = refl; within = omega arith; placed = omega arith }
 
   module _ (s : List ℕ) where
     abbrev w : Tuned
     w = heardOf (startedWith v c) s
 
-    closed-so : outcomeIn (closeOf w) ≡ endedOf w
+    pub closed-so : outcomeIn (closeOf w) ≡ endedOf w
     closed-so =
         ap (λ t. outcomeIn (cond t (closedWith (closedBy (w .radio)) (endedOf w)) (closedWith (w .radio) (record { answer = closedAnswer; verbs = w .verbs; coords = w .coords }))))
         (open-is (w .radio) (open-heard s (startedWith v c) fresh))
 
-    long-ended : textLimit < length s → endedOf w ≡ record { answer = withPlace (numberOf longText) 0; verbs = w .verbs; coords = w .coords }
+    pub long-ended : textLimit < length s → endedOf w ≡ record { answer = withPlace (numberOf longText) 0; verbs = w .verbs; coords = w .coords }
     long-ended h =
         let n = length-heard s (startedWith v c) (omega arith) in
         ap (λ t. cond t (record { answer = withPlace (numberOf longText) 0; verbs = w .verbs; coords = w .coords }) (judgedBy (passOf (passedOf w) (endByte ∷ []))))
@@ -174,7 +173,7 @@ module _ (v : List ℕ) (c : List Float) where
     abbrev answer : ReadAnswer
     answer = judgedOf (throughOf [] [] s .passage) (length v) (length c)
 
-    judged-so : judgedBy (throughOf v c s) ≡ record { answer = answer; verbs = throughOf v c s .verbs; coords = throughOf v c s .coords }
+    pub judged-so : judgedBy (throughOf v c s) ≡ record { answer = answer; verbs = throughOf v c s .verbs; coords = throughOf v c s .coords }
     judged-so =
         let k = throughOf v c s in
         let by : ReadAnswer → Outcome = λ a. record { answer = a; verbs = k .verbs; coords = k .coords } in
@@ -182,7 +181,7 @@ module _ (v : List ℕ) (c : List Float) where
         ∙ ap (λ n. by (judgedOf (throughOf [] [] s .passage) n (length (k .coords)))) same-verbs
         ∙ ap (λ n. by (judgedOf (throughOf [] [] s .passage) (length v) n)) same-coords
 
-    answer-short : length s ≤ textLimit → outcomeIn (closeOf w) .answer ≡ outcomeOf s v c .answer
+    pub answer-short : length s ≤ textLimit → outcomeIn (closeOf w) .answer ≡ outcomeOf s v c .answer
     answer-short h =
         ap (λ (o : Outcome). o .answer) (closed-so ∙ short-ended h ∙ judged-so) ∙ sym (ap (λ (o : Outcome). o .answer) (short-so s v c h) ∙ go (isPath answer))
       where

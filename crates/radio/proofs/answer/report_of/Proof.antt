@@ -1,6 +1,5 @@
 -- `radio::answer::report_of` meets its contract. Assumes nothing.
 use borrow.Author.Needs.{needs}
-use mathlib.Core.Path.{sym}
 use Rattle.radio.proofs.answer.report_of.Statement.{statement}
 use Rattle.radio.proofs.answer.report_of.Tie as tie
 
