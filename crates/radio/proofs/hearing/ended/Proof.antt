@@ -1,6 +1,7 @@
 -- `radio::hearing::ended` meets its contract. Assumes nothing.
 use borrow.Author.Needs.{needs}
 use native.Mathlib.Omega.{arith}
+use Rattle.radio.specs.Radio.{Tuned}
 use Rattle.radio.proofs.Fragment.{opened, ended-long, ended-judged}
 use Rattle.radio.proofs.hearing.ended.Statement.{statement}
 use Rattle.radio.proofs.hearing.ended.Tie as tie
@@ -26,7 +27,12 @@ same-length-2 : tie.Need-same-length-2
 same-length-2 c = search needs
 
 returns-2 : tie.Need-returns-2
-returns-2 c = ended-judged (record { radio = c .before .before .before .before .before .before .before .before .before .before .before .before .before .before .args .r; verbs = c .before .before .before .before .before .before .before .before .before .before .before .before .before .before .args .verbs .now; coords = c .before .before .before .before .before .before .before .before .before .before .before .before .before .before .args .coords .now }) _ _ (c .before .before .before .before .before .before .before .before .before .before .if1 .left) (c .before .before .before .before .before .pass .ensures) (c .judged .ensures)
+returns-2 c =
+    let start = c .before .before .before .before .before .before .before .before .before .before .before .before .before .before in
+    let if1 = c .before .before .before .before .before .before .before .before .before .before .if1 in
+    let pass = c .before .before .before .before .before .pass in
+    let w : Tuned = record { radio = start .args .r; verbs = start .args .verbs .now; coords = start .args .coords .now } in
+    ended-judged w _ _ (if1 .left) (pass .ensures) (c .judged .ensures)
 
 pub ended-spec : {M : Type 1} → statement M
 ended-spec =

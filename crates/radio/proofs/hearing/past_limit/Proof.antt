@@ -2,6 +2,7 @@
 use borrow.Author.Needs.{needs}
 use native.Mathlib.Omega.{arith}
 use mathlib.Core.Path.{sym}
+use Rattle.radio.specs.Radio.{Tuned}
 use Rattle.radio.proofs.Fragment.{passed-limit, past}
 use Rattle.radio.proofs.hearing.past_limit.Statement.{statement}
 use Rattle.radio.proofs.hearing.past_limit.Tie as tie
@@ -31,7 +32,13 @@ same-length-2 : tie.Need-same-length-2
 same-length-2 c = search needs
 
 returns-2 : tie.Need-returns-2
-returns-2 c = passed-limit (record { radio = c .before .before .before .before .before .before .before .before .before .before .before .before .before .before .before .before .args .r; verbs = c .before .before .before .before .before .before .before .before .before .before .before .before .before .before .before .before .args .verbs .now; coords = c .before .before .before .before .before .before .before .before .before .before .before .before .before .before .before .before .args .coords .now }) (c .before .before .before .before .before .before .before .before .before .before .before .before .before .before .before .before .args .b) (c .before .before .before .before .before .before .before .before .before .before .at-limit .result) _ _ (c .before .before .before .before .before .before .before .before .before .before .before .before .if1 .left) (c .before .before .before .before .before .before .before .before .before .before .at-limit .ensures) (c .before .before .before .before .before .before .pass .ensures) (c .radio-at .ensures)
+returns-2 c =
+    let start = c .before .before .before .before .before .before .before .before .before .before .before .before .before .before .before .before in
+    let at-limit = c .before .before .before .before .before .before .before .before .before .before .at-limit in
+    let if1 = c .before .before .before .before .before .before .before .before .before .before .before .before .if1 in
+    let pass = c .before .before .before .before .before .before .pass in
+    let w : Tuned = record { radio = start .args .r; verbs = start .args .verbs .now; coords = start .args .coords .now } in
+    passed-limit w (start .args .b) (at-limit .result) _ _ (if1 .left) (at-limit .ensures) (pass .ensures) (c .radio-at .ensures)
 
 pub past-limit-spec : {M : Type 1} → statement M
 past-limit-spec =
