@@ -32,6 +32,7 @@ pub fn answer(line: &[u8], out: &mut Buffer, p: Printed) -> Printed {
         Kind::Attached => case_inspect::answer(Question::Attached, line, rest, out, p),
         Kind::Measure => case_measure::measuring::answer(line, rest, out, p),
         Kind::Part => case_measure::parting::answer(line, rest, out, p),
+        Kind::Radio => case_radio::answer(line, rest, out, p),
         Kind::None => bad_line(out, p),
     }
 }
@@ -52,6 +53,7 @@ enum Kind {
     Attached,
     Measure,
     Part,
+    Radio,
     None,
 }
 
@@ -100,6 +102,9 @@ fn kind_of(word: &[u8]) -> Kind {
     }
     if check::same(word, b"part") {
         return Kind::Part;
+    }
+    if check::same(word, b"radio") {
+        return Kind::Radio;
     }
     Kind::None
 }
