@@ -6,7 +6,7 @@
  * Nothing else is asked: any bytes, any floats and any lengths have an answer. No call allocates, keeps a pointer or uses a global; of the C library the archive
  * needs memcpy and memset at most.
  *
- * Each call returns 0 or the number of one refusal. A refusal leaves every list as it was, but for the last one, the answer's own. That one is written as
+ * Each call returns 0 or the number of one refusal. A refusal leaves every list as it was, but for the last one, the answer's own (and those of the radio, where its calls say so). That one is written as
  * far as it goes: one that is too short gets the first numbers, and a longer one keeps what it has behind them.
  */
 #ifndef STIPEHARBOR_H
@@ -44,7 +44,8 @@ enum stipeharbor_number {
     STIPEHARBOR_NUMBER_TOO_LARGE = 21, /* the number at the place of the index list is not below the vertex count */
     STIPEHARBOR_TWO_ALIKE = 22,     /* the triangle at the place names a vertex twice */
     STIPEHARBOR_VERTEX_UNNAMED = 23, /* the vertex at the place is named by no triangle; it is the smallest */
-    STIPEHARBOR_NOT_ATTACHED = 24   /* the triangle at the place shares exactly two vertices with none before it */
+    STIPEHARBOR_NOT_ATTACHED = 24,  /* the triangle at the place shares exactly two vertices with none before it */
+    STIPEHARBOR_AFTER_CLOSE = 25    /* a call of the radio behind its closing call, with no new start */
 };
 
 /* Verbs. A begin and a line have two coordinates each. */
@@ -67,6 +68,8 @@ enum stipeharbor_number {
 #define STIPEHARBOR_VERB_LIMIT 65536
 #define STIPEHARBOR_TEXT_LIMIT 1048576
 #define STIPEHARBOR_NARROW_MOST 65535
+/* How many words the radio's state is. */
+#define STIPEHARBOR_RADIO_WORDS 21
 #define STIPEHARBOR_COORDINATE_LIMIT 32768.0f
 #define STIPEHARBOR_WIDTH_LEAST 0.00390625f
 #define STIPEHARBOR_WIDTH_MOST 16384.0f
@@ -209,6 +212,30 @@ uint32_t stipeharbor_check(
 uint32_t stipeharbor_check_attached(
     size_t count,
     const uint32_t *list, size_t list_len,
+    size_t *answer, size_t answer_len);
+
+/* Path text over the radio, in fragments: however the text is divided, and a number may be broken across two, what the closing call answers is what stipeharbor_read answers to the
+ * whole text. Between two calls the caller holds `state`, STIPEHARBOR_RADIO_WORDS words, and lends the same `verbs` and `coords` to each. A new text:
+ * `state` gets its words; it is 25, and nothing changes, where the list is shorter. */
+uint32_t stipeharbor_radio_start(
+    size_t *state, size_t state_len);
+
+/* Takes a fragment of any length, none included. What ends in it is put behind what was put before, as far as both lists go: their places are not final before the closing
+ * call. Words that are no state's count as closed. Refusal 25, behind the closing call; it changes nothing. */
+uint32_t stipeharbor_radio_take(
+    size_t *state, size_t state_len,
+    const uint8_t *fragment, size_t fragment_len,
+    uint8_t *verbs, size_t verbs_len,
+    float *coords, size_t coords_len);
+
+/* Ends the text. After 0 both lists are as stipeharbor_read leaves them. Refusals 8 to 11 are of the whole text; then each list holds, as far as it reaches, what ended before the first
+ * place of a 9 or 10, or the text limit, and other places keep what they have: a begin and a line end with their last number, a begin that a line after Z implies with its letter, an
+ * end verb with the letter or the end of the text that calls for it. Refusal 25, behind another closing call; it changes nothing, `answer` included.
+ * `answer` gets the place (of 9 and 10, else 0), the number of verbs and the number of coordinates (of 0, else 0). */
+uint32_t stipeharbor_radio_close(
+    size_t *state, size_t state_len,
+    uint8_t *verbs, size_t verbs_len,
+    float *coords, size_t coords_len,
     size_t *answer, size_t answer_len);
 
 #ifdef __cplusplus

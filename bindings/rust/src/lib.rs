@@ -1,4 +1,4 @@
-//! The proved library's twelve calls in safe Rust. A path goes in; the mesh of its stripe or one
+//! The proved library's calls in safe Rust. A path goes in; the mesh of its stripe or one
 //! [`Refusal`] comes out.
 //!
 //! ```
@@ -19,17 +19,19 @@
 //! # Ok::<(), stipeharbor::Refusal>(())
 //! ```
 //!
-//! A refusal leaves every lent list as it was, and after a success the elements behind those
-//! counted keep what they had.
+//! A refusal leaves every lent list as it was, but for those of a [`Radio`], and after a success the
+//! elements behind those counted keep what they had.
 //! The calls have no precondition, so this crate checks nothing: it hands slices over, which Rust
 //! keeps valid, aligned and apart.
 
 #![deny(unsafe_op_in_unsafe_fn)]
 #![warn(missing_docs)]
 
+mod radio;
 pub mod raw;
 mod refusal;
 
+pub use radio::Radio;
 pub use refusal::Refusal;
 
 /// A verb that begins a run; it has two coordinates.
@@ -46,6 +48,8 @@ pub const VERB_LIMIT: usize = 65_536;
 pub const TEXT_LIMIT: usize = 1_048_576;
 /// The greatest number that [`narrow`] takes.
 pub const NARROW_MOST: u32 = 65_535;
+/// How many words the state of a [`Radio`] is.
+pub const RADIO_WORDS: usize = 21;
 /// The least merge range, 1/128: no point is left out but those too near to be drawn.
 pub const MERGE_RANGE_LEAST: f32 = 0.007_812_5;
 /// The greatest merge range.

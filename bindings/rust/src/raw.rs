@@ -1,4 +1,4 @@
-//! The twelve calls as C has them, on slices: each returns the number, and writes what it stands for
+//! The calls as C has them, on slices: each returns the number, and writes what it stands for
 //! over the start of its last list, as far as that goes. Joins and caps are numbers here, any at
 //! all. No other file has `unsafe`.
 
@@ -117,6 +117,27 @@ extern "C" {
         count: usize,
         list: *const u32,
         list_len: usize,
+        answer: *mut usize,
+        answer_len: usize,
+    ) -> u32;
+    fn stipeharbor_radio_start(state: *mut usize, state_len: usize) -> u32;
+    fn stipeharbor_radio_take(
+        state: *mut usize,
+        state_len: usize,
+        fragment: *const u8,
+        fragment_len: usize,
+        verbs: *mut u8,
+        verbs_len: usize,
+        coords: *mut f32,
+        coords_len: usize,
+    ) -> u32;
+    fn stipeharbor_radio_close(
+        state: *mut usize,
+        state_len: usize,
+        verbs: *mut u8,
+        verbs_len: usize,
+        coords: *mut f32,
+        coords_len: usize,
         answer: *mut usize,
         answer_len: usize,
     ) -> u32;
@@ -340,4 +361,54 @@ pub fn check_attached(count: usize, list: &[u32], answer: &mut [usize]) -> u32 {
     let (at, length) = (answer.as_mut_ptr(), answer.len());
     // SAFETY: each pair is a live slice's; the one that is written is an exclusive borrow.
     unsafe { stipeharbor_check_attached(count, list.as_ptr(), list.len(), at, length) }
+}
+
+/// `state` gets a new text's words.
+pub fn radio_start(state: &mut [usize]) -> u32 {
+    // SAFETY: the pair is a live slice's, an exclusive borrow.
+    unsafe { stipeharbor_radio_start(state.as_mut_ptr(), state.len()) }
+}
+
+/// The state, and both lists, are written as the fragment has it.
+pub fn radio_take(
+    state: &mut [usize],
+    fragment: &[u8],
+    verbs: &mut [u8],
+    coords: &mut [f32],
+) -> u32 {
+    // SAFETY: each pair is a live slice's; those that are written are exclusive borrows.
+    unsafe {
+        stipeharbor_radio_take(
+            state.as_mut_ptr(),
+            state.len(),
+            fragment.as_ptr(),
+            fragment.len(),
+            verbs.as_mut_ptr(),
+            verbs.len(),
+            coords.as_mut_ptr(),
+            coords.len(),
+        )
+    }
+}
+
+/// `answer` gets the place, the number of verbs and the number of coordinates.
+pub fn radio_close(
+    state: &mut [usize],
+    verbs: &mut [u8],
+    coords: &mut [f32],
+    answer: &mut [usize],
+) -> u32 {
+    // SAFETY: each pair is a live slice's; those that are written are exclusive borrows.
+    unsafe {
+        stipeharbor_radio_close(
+            state.as_mut_ptr(),
+            state.len(),
+            verbs.as_mut_ptr(),
+            verbs.len(),
+            coords.as_mut_ptr(),
+            coords.len(),
+            answer.as_mut_ptr(),
+            answer.len(),
+        )
+    }
 }

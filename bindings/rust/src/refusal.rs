@@ -97,6 +97,8 @@ pub enum Refusal {
         /// Which triangle.
         place: usize,
     },
+    /// 25: a call of the radio behind its closing call, with no new start.
+    AfterClose,
 }
 
 impl Refusal {
@@ -137,6 +139,7 @@ impl Refusal {
             22 => Refusal::TwoAlike { place },
             23 => Refusal::VertexUnnamed { place },
             24 => Refusal::NotAttached { place },
+            25 => Refusal::AfterClose,
             _ => unreachable!("the library is proved to answer no other number"),
         })
     }
@@ -166,6 +169,7 @@ impl Refusal {
             Refusal::TwoAlike { .. } => 22,
             Refusal::VertexUnnamed { .. } => 23,
             Refusal::NotAttached { .. } => 24,
+            Refusal::AfterClose => 25,
         }
     }
 

@@ -5,6 +5,7 @@ use stipeharbor::{measure, run_vertices};
 use stipeharbor::{narrow, stl_corners, stl_file, stl_read, stl_write, widen};
 use stipeharbor::{Cap, Join, Mesh, Options, Path, Refusal, BEGIN, END_CLOSED, END_OPEN, LINE};
 use stipeharbor::{Side, Source};
+use stipeharbor::{raw, Radio, RADIO_WORDS};
 use stipeharbor::{MERGE_RANGE_LEAST, MERGE_RANGE_MOST, TEXT_LIMIT};
 
 const OPTIONS: Options = Options {
@@ -283,4 +284,40 @@ fn of_sources() {
     assert_eq!(Source::new(2, Side::Negative), Some(sources[2]));
     assert_eq!(sources[2].record(), 5);
     assert_eq!(Source::new(1 << 31, Side::Positive), None);
+}
+
+#[test]
+fn of_a_text_in_fragments() {
+    let (mut verbs, mut coordinates) = ([9; 8], [9.0; 8]);
+    let mut radio = Radio::start();
+    // 10 at 5, and 9 at 16: the 9 is told, and the begin alone ended before 5.
+    for byte in b"M0 0L99999 1L2 2x" {
+        assert_eq!(radio.take(&[*byte], &mut verbs, &mut coordinates), Ok(()));
+    }
+    let refused = radio.close(&mut verbs, &mut coordinates);
+    assert_eq!(refused, Err(Refusal::OutOfForm { place: 16 }));
+    assert_eq!(verbs, [BEGIN, 9, 9, 9, 9, 9, 9, 9]);
+    assert_eq!(coordinates[..3], [0.0, 0.0, 9.0]);
+    let again = radio.take(b"M1 2", &mut verbs, &mut coordinates);
+    assert_eq!(again, Err(Refusal::AfterClose));
+    assert_eq!(verbs, [BEGIN, 9, 9, 9, 9, 9, 9, 9]);
+    assert_eq!(Refusal::AfterClose.number(), 25);
+}
+
+#[test]
+fn of_words_that_are_no_state() {
+    let mut state = [0; RADIO_WORDS];
+    assert_eq!(raw::radio_start(&mut state[..20]), 25);
+    assert_eq!(state, [0; RADIO_WORDS]);
+    assert_eq!(raw::radio_start(&mut state), 0);
+    for (place, word) in [(0, 9), (3, 2), (6, usize::MAX), (17, 1), (19, 1_048_578)] {
+        let mut other = state;
+        other[place] = word;
+        let before = other;
+        assert_eq!(raw::radio_take(&mut other, b"M", &mut [], &mut []), 25);
+        let mut answer = [7; 3];
+        let number = raw::radio_close(&mut other, &mut [], &mut [], &mut answer);
+        assert_eq!((number, other, answer), (25, before, [7; 3]));
+    }
+    assert_eq!(raw::radio_take(&mut state, b"M", &mut [], &mut []), 0);
 }

@@ -32,7 +32,6 @@ use Rattle.reader.specs.Reads as reads
 use Rattle.reader.proofs.Adding.{soundOf, held-all}
 use Rattle.reader.proofs.Heard.{heardFrom, through, few-heard}
 use Rattle.reader.proofs.Meets.{withEnd, through-is, meets, only}
-use Rattle.reader.proofs.Meets as reader
 use Rattle.reader.proofs.Passing.{pass-append}
 use Rattle.radio.specs.Radio.{Tuned, tuned, atLimit, heardOf, closeOf, startedWith, takesOf, joined, outcomeIn}
 use Rattle.radio.specs.Hears.{eventsIn, heldAt, holding, Hears, too-long, too-long-wrong, out-of-form, too-large, no-room, path}

@@ -10,7 +10,9 @@ use Rattle.options.specs.declared.Options.{Options}
 use Rattle.pieces.specs.Piece.{Lists}
 use Rattle.reader.specs.Outcome as reader
 use Rattle.reader.proofs.Meets.{same-outcome}
+use Rattle.radio_words.specs.Calls.{Started, startOf, Taken, takeOf}
 use Rattle.stipeharbor.specs.Calls.{Tessellated, tessellateOutOf, ReadOut, readOutOf, ReadsOut, FloatsOut, rootOutOf, RootsOut, normalOutOf, StlWritten, stlWriteOutOf, StlCorners, stlReadOutOf, ListOut, widenOutOf, narrowOutOf, CheckOut, checkOutOf}
+use Rattle.stipeharbor.specs.Fragments.{CloseOut, closeOutOf}
 
 pub tessellate-out-one : (verbs : List ℕ) (coords : List Float) (options : Options) (l : Lists) (answer : List ℕ) (a b : Tessellated)
     → a ≡ tessellateOutOf verbs coords options l answer → b ≡ tessellateOutOf verbs coords options l answer → a ≡ b
@@ -41,3 +43,12 @@ narrow-out-one numbers narrowed answer a b h k = h ∙ sym k
 
 pub check-out-one : (v : Verdict) (answer : List ℕ) (a b : CheckOut) → a ≡ checkOutOf v answer → b ≡ checkOutOf v answer → a ≡ b
 check-out-one v answer a b h k = h ∙ sym k
+
+pub radio-start-one : (state : List ℕ) (a b : Started) → a ≡ startOf state → b ≡ startOf state → a ≡ b
+radio-start-one state a b h k = h ∙ sym k
+
+pub radio-take-one : (state fragment verbs : List ℕ) (coords : List Float) (a b : Taken) → a ≡ takeOf state fragment verbs coords → b ≡ takeOf state fragment verbs coords → a ≡ b
+radio-take-one state fragment verbs coords a b h k = h ∙ sym k
+
+pub radio-close-one : (state verbs : List ℕ) (coords : List Float) (answer : List ℕ) (a b : CloseOut) → a ≡ closeOutOf state verbs coords answer → b ≡ closeOutOf state verbs coords answer → a ≡ b
+radio-close-one state verbs coords answer a b h k = h ∙ sym k

@@ -1,5 +1,6 @@
-// The library as C and Rust link it: twelve calls over numbers and slices, each answering document 01's number. What a number stands for is written over
+// The library as C and Rust link it: calls over numbers and slices, ten here, two that measure in `measuring` and the radio's three in `fragments`, each answering document 01's number. What a number stands for is written over
 // the start of a list that the caller lends, as far as that list goes, so no call has a `requires`.
+pub mod fragments;
 mod measuring;
 mod put;
 

@@ -3,7 +3,7 @@ use borrow.Author.Needs.{needs}
 use Prim.Native.Nat.{_-_, _≤_}
 use mathlib.Core.Path.{_≡_, sym}
 use native.Mathlib.Omega.{arith}
-use lib.ListN.{length, take}
+use lib.ListN.{take}
 use Rattle.lists.specs.Over.{over}
 use Rattle.lists.proofs.Laws.{over-none}
 use Rattle.radio_words.proofs.Lists.{put-same, put-next, put-done}
