@@ -156,6 +156,22 @@ static void lists(void)
     expect(stipeharbor_check_attached(3, two, 6, answer, 1) == STIPEHARBOR_NOT_ATTACHED && answer[0] == 1, "and shares three, not two");
 }
 
+/* W-212's: a number broken across two fragments, a second close, words that are no state's. */
+static void radio(void)
+{
+    size_t state[STIPEHARBOR_RADIO_WORDS], answer[3] = {UNTOUCHED, UNTOUCHED, UNTOUCHED};
+    uint8_t verbs[3] = {9, 9, 9};
+    float coords[3] = {9, 9, 9};
+    expect(stipeharbor_radio_start(state, STIPEHARBOR_RADIO_WORDS - 1) == STIPEHARBOR_AFTER_CLOSE, "a word too few holds no state");
+    expect(stipeharbor_radio_start(state, STIPEHARBOR_RADIO_WORDS) == STIPEHARBOR_ACCEPTED, "a text is started");
+    expect(stipeharbor_radio_take(state, STIPEHARBOR_RADIO_WORDS, (const uint8_t *)"M1", 2, verbs, 3, coords, 3) == STIPEHARBOR_ACCEPTED && verbs[0] == 9, "a number goes on");
+    expect(stipeharbor_radio_take(state, STIPEHARBOR_RADIO_WORDS, (const uint8_t *)"2 3", 3, verbs, 3, coords, 3) == STIPEHARBOR_ACCEPTED, "in the next fragment");
+    expect(stipeharbor_radio_close(state, STIPEHARBOR_RADIO_WORDS, verbs, 3, coords, 3, answer, 3) == STIPEHARBOR_ACCEPTED && answer[1] == 2 && answer[2] == 2 && coords[0] == 12 && coords[1] == 3 && coords[2] == 9 && verbs[1] == STIPEHARBOR_END_OPEN && verbs[2] == 9, "and is one");
+    expect(stipeharbor_radio_close(state, STIPEHARBOR_RADIO_WORDS, verbs, 3, coords, 3, answer, 3) == STIPEHARBOR_AFTER_CLOSE && answer[1] == 2, "a second close changes nothing");
+    state[0] = STIPEHARBOR_RADIO_WORDS;
+    expect(stipeharbor_radio_take(state, STIPEHARBOR_RADIO_WORDS, NULL, 0, NULL, 0, NULL, 0) == STIPEHARBOR_AFTER_CLOSE && stipeharbor_radio_take(NULL, 0, NULL, 0, NULL, 0, NULL, 0) == STIPEHARBOR_AFTER_CLOSE, "words that are no state's count as closed");
+}
+
 int main(void)
 {
     short_answers();
@@ -166,5 +182,6 @@ int main(void)
     stl();
     widths();
     lists();
+    radio();
     return failures != 0;
 }

@@ -21,9 +21,9 @@ pub struct Lists {
     vertices: List<f32>,
     sources: List<u32>,
     triangles: List<u32>,
-    verbs: List<u8>,
-    coordinates: List<f32>,
-    answer: List<usize>,
+    pub(crate) verbs: List<u8>,
+    pub(crate) coordinates: List<f32>,
+    pub(crate) answer: List<usize>,
     values: List<f32>,
     bytes: List<u8>,
     corners: List<f32>,
@@ -36,7 +36,7 @@ type Call = fn(usize, &[u32], &mut [usize]) -> u32;
 type Question = fn(usize, &[u32]) -> Result<(), Refusal>;
 
 /// The number that both sides answered, or what differs.
-type Held = Result<u32, String>;
+pub(crate) type Held = Result<u32, String>;
 
 impl Lists {
     /// The answer's own list is mostly just long enough.
@@ -56,6 +56,7 @@ impl Lists {
             Case::Narrow(case) => self.hold_narrow(case),
             Case::Check(case) => self.hold_list(case, raw::check, inspect::check),
             Case::Attached(case) => self.hold_list(case, raw::check_attached, inspect::attached),
+            Case::Radio(case) => self.hold_radio(case, length),
             _ => Err("no call of the library".to_string()),
         }
     }
@@ -308,13 +309,13 @@ fn corners<'a>(vertices: &'a [f32], triangles: &'a [u32]) -> impl Iterator<Item 
     })
 }
 
-fn held(ours: u32, theirs: u32) -> Result<(), String> {
+pub(crate) fn held(ours: u32, theirs: u32) -> Result<(), String> {
     if ours == theirs {
         return Ok(());
     }
     Err(format!("number: library {}, oracle {}", ours, theirs))
 }
 
-fn alike(difference: Option<String>) -> Result<(), String> {
+pub(crate) fn alike(difference: Option<String>) -> Result<(), String> {
     difference.map_or(Ok(()), Err)
 }

@@ -3,15 +3,18 @@
 //! list of damaged STL files, whatever the seed, and ends by itself; `back` has meshes written and
 //! read back by the library; `big` has sizes that no line has: paths, texts and lists about the
 //! limits, and is left out where no call is named. Of the index lists one in 20,000 has up to
-//! 200,000 triangles. Prints how often each number was answered; ends with 1 at the first
+//! 200,000 triangles. `radio` has texts in fragments; `divisions` has COUNT short texts, each divided
+//! into up to three fragments in every way. Prints how often each number was answered; ends with 1 at the first
 //! difference, printing its case line.
 
 mod call;
 mod list;
+mod radio;
 
 use call::Lists;
 use oracle::case::{Case, ListCase};
 use oracle::gen::{any_list, big, case, damaged, sound, Kind, Rng};
+use radio::divisions;
 use std::iter::repeat_with;
 use std::process::ExitCode;
 use std::time::Instant;
@@ -22,6 +25,7 @@ enum Of {
     Damaged,
     Back,
     List(fn(ListCase) -> Case),
+    Divisions,
     Big,
 }
 
@@ -40,6 +44,8 @@ const KINDS: [(&str, Of); 15] = [
     ("back", Of::Back),
     ("check", Of::List(Case::Check)),
     ("attached", Of::List(Case::Attached)),
+    ("radio", Of::Call(Kind::Radio)),
+    ("divisions", Of::Divisions),
     ("big", Of::Big),
 ];
 
@@ -76,15 +82,17 @@ fn arguments(words: &[String]) -> Option<(u64, usize, Kinds)> {
     Some((seed.parse().ok()?, count.parse().ok()?, named))
 }
 
-fn cases(seed: u64, of: Of) -> Box<dyn Iterator<Item = Case>> {
+fn cases(seed: u64, count: usize, of: Of) -> Box<dyn Iterator<Item = Case>> {
     let mut rng = Rng::new(seed);
-    match of {
+    let each: Box<dyn Iterator<Item = Case>> = match of {
         Of::Call(kind) => Box::new(repeat_with(move || case(&mut rng, kind))),
         Of::Damaged => Box::new(damaged().map(Case::StlRead)),
         Of::Big => Box::new(repeat_with(move || big(&mut rng))),
         Of::Back => Box::new(repeat_with(move || Case::StlWrite(sound(&mut rng)))),
         Of::List(asked) => Box::new(repeat_with(move || asked(any_list(&mut rng)))),
-    }
+        Of::Divisions => return Box::new(divisions(rng, count)),
+    };
+    Box::new(each.take(count))
 }
 
 /// Whether all cases of a kind are answered alike.
@@ -92,9 +100,9 @@ fn compare(seed: u64, count: usize, name: &str, of: Of) -> bool {
     let start = Instant::now();
     let mut lengths = Rng::new(!seed);
     let mut lists = Lists::default();
-    let mut told = [0u64; 25];
+    let mut told = [0u64; 26];
     let mut done = 0;
-    for case in cases(seed, of).take(count) {
+    for case in cases(seed, count, of) {
         let held = match (of, &case) {
             (Of::Back, Case::StlWrite(case)) => lists.hold_back(case),
             _ => lists.hold(&mut lengths, &case),
