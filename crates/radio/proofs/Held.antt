@@ -2,10 +2,11 @@
 -- to there. In this order: the machine along a text, where it stops, each of the three, and that such a text exists. Assumes nothing.
 use Prim.Native.Nat.{ℕ, zero, suc, _+_, _-_, _≤_, _<_, min}
 use mathlib.Core.Path.{_≡_, refl, sym, ap, _∙_, subst}
-use mathlib.Core.Bool.{Bool, true, false, cond, not, _&&_}
+use mathlib.Core.Bool.{Bool, true, false, cond, not, _&&_, _||_}
 use mathlib.Core.List.{List, [], _∷_, _++_, append-assoc, append-nil}
 use native.Mathlib.Omega.{arith}
 use native.Mathlib.Decide.{decLe}
+use lib.Dec.{eqb}
 use lib.ListN.{length, take, drop, getD, take-append-drop, drop-of-length-le, List·getD-eq-default}
 use lib.Seq.{take-suc, take-length, drop-cons, length-take-le, take-take, getD-take}
 use Rattle.form.specs.declared.classes.Class.{Class}
@@ -17,7 +18,7 @@ use Rattle.form.specs.declared.machine.Going.{Going}
 use Rattle.form.specs.declared.machine.Mode.{Mode}
 use Rattle.form.specs.declared.machine.Stage.{Stage}
 use Rattle.form.specs.declared.machine.Stage.the-variants.{Start, Closed, Want, Signed, Whole, Pointed, Fraction, Gap, Lost}
-use Rattle.form.specs.Bytes.{classOf}
+use Rattle.form.specs.Bytes.{isDigit, classOf}
 use Rattle.form.specs.Form.{Text, text, HasForm, Wrong}
 use Rattle.form.specs.Machine.{start, rowOf, endsHere, endsBefore, axisAt, isInside, nextOf, final, isLost, mayEnd}
 use Rattle.form.proofs.Taken.{never, form-ends}
@@ -37,8 +38,9 @@ use Rattle.reader.specs.Reads.{largeIn}
 use Rattle.reader.proofs.Adding.{soundOf}
 use Rattle.reader.proofs.Heard.{heardBy, heardFrom, heard-formed}
 use Rattle.reader.proofs.Meets.{withEnd, lost-by-end}
-use Rattle.radio.specs.Radio.{atLimitBy, atLimit}
+use Rattle.radio.specs.Radio.{atLimit}
 use Rattle.radio.specs.Hears.{eventsIn, endedBefore, firstOf, before, following, isFigure, goesOn, Begun, heldAt}
+use Rattle.radio.proofs.Limit.{limit-not-on, limit-no-letter}
 use Rattle.radio.proofs.Since.{goingOf, since, isLetter, ends-here, behind-figure}
 use Rattle.radio.proofs.Ends.{numberOf, bounded, shared, one-here}
 
@@ -69,6 +71,16 @@ events-heard t =
 heard-begun : (t : Text) (u r : List ℕ) → text t ≡ u ++ r → eventsIn t ≡ heardFrom 0 started (u ++ withEnd r)
 heard-begun t u r e = sym (events-heard t) ∙ ap (λ l. heardFrom 0 started (withEnd l)) e ∙ ap (λ l. heardFrom 0 started l) (append-assoc u r (endByte ∷ []))
 
+-- a byte that goes on with no number ends the one before it
+parts : (g : Going) (k : Class) → goesOn k ≡ false → endsBefore g k ≡ endsHere g
+parts g Blank e = refl
+parts g Comma e = refl
+parts g Sign e = refl
+parts g Digit e = absurd (never (sym e))
+parts g Dot e = absurd (never (sym e))
+parts g (Command l) e = refl
+parts g Other e = refl
+
 -- ---- where it stops: of the byte there only the number before it counts
 abbrev pub stopEvents : ℕ → State → Class → List Event
 stopEvents i s k = put (numberOf (s .mode) (s .known) i (endsBefore (goingOf (s .mode)) k)) []
@@ -98,18 +110,13 @@ module _ (i : ℕ) (s : State) where
   quiet (Command l) e = absurd (never (sym e))
   quiet Other e = refl
 
-  limit-heard : (k : Class) (b : ℕ) → classOf b ≡ k → heardFrom i s (atLimitBy k b ∷ []) ≡ stopEvents i s k
+  limit-heard : (b : ℕ) (t : Bool) → isDigit b || eqb b 46 ≡ t → heardFrom i s (cond t b 32 ∷ []) ≡ stopEvents i s (classOf b)
   unfolding classOf
-  limit-heard Blank b e = ap alone e ∙ quiet Blank refl
-  limit-heard Comma b e = ap alone e ∙ quiet Comma refl
-  limit-heard Sign b e = ap alone e ∙ quiet Sign refl
-  limit-heard Digit b e = ap alone e ∙ quiet Digit refl
-  limit-heard Dot b e = ap alone e ∙ quiet Dot refl
-  limit-heard (Command l) b e = quiet Blank refl
-  limit-heard Other b e = ap alone e ∙ quiet Other refl
+  limit-heard b true e = quiet (classOf b) (limit-no-letter b e)
+  limit-heard b false e = quiet Blank refl ∙ ap (λ t. put (numberOf (s .mode) (s .known) i t) []) (sym (parts (goingOf (s .mode)) (classOf b) (limit-not-on b e)))
 
 pub limit-stops : (m : Mode) (b : ℕ) → Stops m (atLimit b ∷ []) (classOf b)
-limit-stops m b i s q = limit-heard i s (classOf b) b refl
+limit-stops m b i s q = limit-heard i s b (isDigit b || eqb b 46) refl
 
 -- ---- the number before a place, by the byte there
 not-here : (g : Going) (k : Class) → endsHere g ≡ false → endsBefore g k ≡ false
@@ -118,15 +125,6 @@ not-here g k e = go (endsBefore g k) refl
     go : (t : Bool) → endsBefore g k ≡ t → t ≡ false
     go true q = absurd (never (sym e ∙ ends-here g k q))
     go false q = refl
-
-parts : (g : Going) (k : Class) → goesOn k ≡ false → endsBefore g k ≡ endsHere g
-parts g Blank e = refl
-parts g Comma e = refl
-parts g Sign e = refl
-parts g Digit e = absurd (never (sym e))
-parts g Dot e = absurd (never (sym e))
-parts g (Command l) e = refl
-parts g Other e = refl
 
 -- a point behind a number goes on with it or begins another, so that it is not what stops the machine
 dot-on : (g : Stage) (a : Axis) (n : ℕ) → endsHere (rowOf g .going) ≡ true → isLost (nextOf (record { stage = g; axis = a; places = n }) Dot) ≡ false

@@ -1,14 +1,12 @@
 -- What each call of the radio does to the state and to both lists. Assumes nothing.
 use Prim.Native.Nat.{ℕ, _+_}
-use mathlib.Core.Bool.{Bool, true, false, cond}
+use mathlib.Core.Bool.{Bool, true, false, cond, _||_}
 use mathlib.Core.List.{List, [], _∷_, _++_}
-use lib.Dec.{ltb, leb}
+use lib.Dec.{ltb, leb, eqb}
 use lib.Ieee.{Float}
 use lib.ListN.{length}
 use Rattle.refusals.specs.Numbers.{numberOf, longText}
-use Rattle.form.specs.declared.classes.Class.{Class}
-use Rattle.form.specs.declared.classes.Class.the-variants.{Blank, Comma, Sign, Digit, Dot, Command, Other}
-use Rattle.form.specs.Bytes.{classOf}
+use Rattle.form.specs.Bytes.{isDigit}
 use Rattle.reader.specs.declared.answer.ReadAnswer.{ReadAnswer}
 use Rattle.reader.specs.Answer.{textLimit, withPlace, judgedOf}
 use Rattle.reader.specs.Outcome.{Outcome}
@@ -37,18 +35,9 @@ tuned p n = record { radio = record { passage = p .passage; length = n; closed =
 abbrev pub isOpen : Radio → Bool
 isOpen r = cond (r .closed) false (cond (ltb (textLimit + 1) (r .length)) false (leb (r .passage .place) (r .length)))
 
--- Of the byte at the limit only the number before it counts, "what ended before .. the text limit": a letter is taken for white space there.
-abbrev pub atLimitBy : Class → ℕ → ℕ
-atLimitBy Blank b = b
-atLimitBy Comma b = b
-atLimitBy Sign b = b
-atLimitBy Digit b = b
-atLimitBy Dot b = b
-atLimitBy (Command l) b = 32
-atLimitBy Other b = b
-
+-- Of the byte at the limit only the number before it counts, "what ended before .. the text limit": one that goes on with no number is taken for white space.
 abbrev pub atLimit : ℕ → ℕ
-atLimit b = atLimitBy (classOf b) b
+atLimit b = cond (isDigit b || eqb b 46) b 32
 
 -- a byte behind the limit adds nothing
 abbrev pub pastLimit : Tuned → ℕ → Tuned

@@ -1,7 +1,5 @@
 // The bytes of a fragment, within the limit, at it and behind it; and the end of a text.
 use crate::Radio;
-use form::classes::Class;
-use form::classes::class_of;
 use reader::END;
 use reader::TEXT_LIMIT;
 use reader::answer::Reading;
@@ -32,19 +30,20 @@ fn left(length: usize) -> usize
     }
 }
 
-// Of the byte at the limit only the number before it counts: a letter is taken for white space there.
+// Of the byte at the limit only the number before it counts: one that goes on with no number is taken for white space.
 fn at_limit(b: u8) -> u8
     ensures { λ r. ⌜ r ≡ atLimit b ⌝ }
 {
-    match class_of(b) {
-        Class::Blank => b,
-        Class::Comma => b,
-        Class::Sign => b,
-        Class::Digit => b,
-        Class::Dot => b,
-        Class::Command(_) => b' ',
-        Class::Other => b,
+    if b == b'.' {
+        return b;
     }
+    if b < b'0' {
+        return b' ';
+    }
+    if b'9' < b {
+        return b' ';
+    }
+    b
 }
 
 fn radio_at(passage: Passage, length: usize) -> Radio
