@@ -117,7 +117,7 @@ fn damage(rng: &mut Rng, case: &mut ListCase) {
     match rng.below(9) {
         0 => case.list.truncate(rng.below(length + 1)),
         1 => case.list.extend(vec![0; 1 + rng.below(4)]),
-        2 => case.count = rng.pick(&[count + 1, count.saturating_sub(1), 0, 9_999_999_000]),
+        2 => case.count = rng.pick(&[count + 1, count.saturating_sub(1), 0, 9_999_999_000u64 as usize]),
         // Another run, whose vertices go on.
         3 => {
             case.list.extend([0, 1, 2].map(|k| (count + k) as u32));
