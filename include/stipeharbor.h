@@ -6,6 +6,10 @@
  * Nothing else is asked: any bytes, any floats and any lengths have an answer. No call allocates, keeps a pointer or uses a global; of the C library the archive
  * needs memcpy and memset at most.
  *
+ * Freestanding use needs <stddef.h> and <stdint.h> alone, which every compiler has, and these symbols of the archive for each machine (tools/native prints them): memset on 64-bit machines; memcpy, memset and
+ * __aeabi_uldivmod on 32-bit Arm Linux; __aeabi_memcpy, __aeabi_memclr, __aeabi_memclr4 and __aeabi_uldivmod on a bare Cortex-M, which libgcc with newlib, or compiler-rt, have. Floats are to be rounded to nearest
+ * and subnormals kept, as a processor does from its start. In C++ the calls are the same, by the extern "C" below.
+ *
  * Each call returns 0 or the number of one refusal. A refusal leaves every list as it was, but for the last one, the answer's own (and those of the radio, where its calls say so). That one is written as
  * far as it goes: one that is too short gets the first numbers, and a longer one keeps what it has behind them.
  */
@@ -83,6 +87,28 @@ enum stipeharbor_number {
 #define STIPEHARBOR_MITER_LIMIT_MOST 1024.0f
 #define STIPEHARBOR_MERGE_RANGE_LEAST 0.0078125f
 #define STIPEHARBOR_MERGE_RANGE_MOST 1.0f
+
+/* What a renderer gets, by one join: the path (0,0), (4,0), (4,4), marked +, of width 2, with Miter and Butt; y points up.
+ *
+ *      y
+ *      4            4-----+-----5      vertex    x   y   normal   advancement   source
+ *                   |           |         0      0   1    0   1       0          0
+ *                   |     |     |         1      0  -1    0  -1       0          1
+ *      1      0-----2           |         2      3   1   -1   1       4          2
+ *             |     inner |     |         3      5  -1    1  -1       4          3
+ *      0      + - - - - - +     |         4      3   4   -1   0       8          4
+ *             |                 |         5      5   4    1   0       8          5
+ *     -1      1-----------------3
+ *                                tip   triangles: 1 0 2, 1 2 3, 3 2 4, 3 4 5
+ *             0     3     4     5  x
+ *
+ * - x and y are the path's point plus the normal times half the width, in floats. The normal is not of length 1: it reaches to the side of a stripe of half width 1, at this tip the root of 2 far. A shader that has point and
+ *   normal can so change the width a little; at another width the joins may be others.
+ * - The advancement is the length of the run from its begin to the vertex's point, over the points that are kept; each run starts at 0. It is for what goes along the lane: dashes, arrows, a texture's coordinate.
+ * - The source names the path's point, twice its number, and one more on the right-hand side: what a tap on the stripe is to be told by.
+ * - The miter limit counts half widths: a tip that lies farther from its point than limit * width / 2 is beyond it. It is SVG's stroke-miterlimit.
+ * - Triangles turn clockwise where y points up, and so the other way on most screens. Where the path folds, as in a bend sharper than the stripe is wide, some are turned over or lie over others: draw both faces.
+ * - Four vertices and four triangles to a begin or a line are always enough, 20 floats, 4 sources and 12 numbers, and with that room the path is passed once. Or ask for the counts first, with lengths of 0. */
 
 /* Strokes a path: a mesh at the start of `vertices` (five floats each: x, y, the normal's x and y, the advancement), of `sources` (one number to a vertex: where it
  * came from, below) and of `triangles` (three vertex numbers each). Elements behind it keep what they have. Room is the list's length over 5 or over 3, rounded

@@ -97,6 +97,29 @@ static void values(void)
     expect(stipeharbor_root(-1.0f, value, 2) == STIPEHARBOR_NO_ROOT && value[0] == 0.0f, "a refusal has the value +0");
 }
 
+/* The drawing of a join in the header, number for number, at exact room; and x and y are the point and the normal times half the width. */
+static void drawing(void)
+{
+    static const uint8_t verbs[] = {STIPEHARBOR_BEGIN, STIPEHARBOR_LINE, STIPEHARBOR_LINE, STIPEHARBOR_END_OPEN};
+    static const float coords[] = {0.0f, 0.0f, 4.0f, 0.0f, 4.0f, 4.0f};
+    static const float told[] = {0, 1, 0, 1, 0, 0, -1, 0, -1, 0, 3, 1, -1, 1, 4, 5, -1, 1, -1, 4, 3, 4, -1, 0, 8, 5, 4, 1, 0, 8};
+    static const uint32_t corners[] = {1, 0, 2, 1, 2, 3, 3, 2, 4, 3, 4, 5};
+    float vertices[30];
+    uint32_t sources[6], triangles[12];
+    size_t answer[3];
+    uint32_t number = stipeharbor_tessellate(verbs, 4, coords, 6, 2.0f, 4.0f, STIPEHARBOR_MITER, STIPEHARBOR_BUTT, STIPEHARBOR_MERGE_RANGE_LEAST, vertices, 30, sources, 6,
+                                             triangles, 12, answer, 3);
+    expect(number == STIPEHARBOR_ACCEPTED && answer[1] == 6 && answer[2] == 4, "the header's join has six vertices and four triangles");
+    for (size_t i = 0; i < 30; i++)
+        expect(vertices[i] == told[i], "the header's join has the vertices that it draws");
+    for (size_t i = 0; i < 12; i++)
+        expect(triangles[i] == corners[i], "the header's join has the triangles that it names");
+    for (size_t i = 0; i < 6; i++)
+        expect(sources[i] == i, "the header's join has the sources that it names");
+    for (size_t i = 0; i < 6; i++)
+        expect(vertices[5 * i] == coords[2 * (i / 2)] + vertices[5 * i + 2] && vertices[5 * i + 1] == coords[2 * (i / 2) + 1] + vertices[5 * i + 3], "a place is the point and the normal times half the width");
+}
+
 /* A file of one triangle, its count and its second corner's x looked at, and read back; refusals 14 to 17, each changing nothing. */
 static void stl(void)
 {
@@ -179,6 +202,7 @@ int main(void)
     measured();
     nulls();
     values();
+    drawing();
     stl();
     widths();
     lists();
