@@ -22,7 +22,7 @@
 /* The version of this header and of the archive that goes with it. Before 1.0.0 MINOR grows where a program that keeps to this header has to be looked at again: a call has other parameters, a number another
  * meaning, an input another answer; PATCH where something is only added. From 1.0.0 on MAJOR and MINOR do so. CHANGELOG.md says what changed. */
 #define STIPEHARBOR_VERSION_MAJOR 0
-#define STIPEHARBOR_VERSION_MINOR 9
+#define STIPEHARBOR_VERSION_MINOR 10
 #define STIPEHARBOR_VERSION_PATCH 0
 
 #ifdef __cplusplus

@@ -44,20 +44,21 @@ function answerTo(text, options) {
   let number = library.stipeharbor_read(source, encoded.length, verbs, VERB_LIMIT, coords, 2 * VERB_LIMIT, answer, 3);
   if (number !== 0) return { number, place: told()[0], encoded };
   const [, verbCount, coordCount] = told();
-  const stroke = (vertices, v, triangles, t) =>
-    library.stipeharbor_tessellate(verbs, verbCount, coords, coordCount, options.width, options.limit, options.join, options.cap, options.merge, vertices, 5 * v, triangles, 3 * t, answer, 3);
+  const stroke = (vertices, sources, v, triangles, t) =>
+    library.stipeharbor_tessellate(verbs, verbCount, coords, coordCount, options.width, options.limit, options.join, options.cap, options.merge, vertices, 5 * v, sources, v, triangles, 3 * t, answer, 3);
   // With no room lent the refusal says how much is needed.
-  number = stroke(0, 0, 0, 0);
+  number = stroke(0, 0, 0, 0, 0);
   const [place, v, t] = told();
   if (number !== 0 && number !== ROOM_REFUSED) return { number, place, encoded };
-  const [, , , , vertices, triangles] = lend(...rooms, 20 * v, 12 * t);
-  number = stroke(vertices, v, triangles, t);
+  const [, , , , vertices, sources, triangles] = lend(...rooms, 20 * v, 4 * v, 12 * t);
+  number = stroke(vertices, sources, v, triangles, t);
   if (number !== 0) return { number, place: told()[0], encoded };
   return {
     number,
     verbs: list(Uint8Array, verbs, verbCount),
     coords: list(Float32Array, coords, coordCount),
     vertices: list(Float32Array, vertices, 5 * v),
+    sources: list(Uint32Array, sources, v),
     triangles: list(Uint32Array, triangles, 3 * t),
   };
 }
@@ -145,16 +146,51 @@ function tell(got) {
   const [v, t] = [got.vertices.length / 5, got.triangles.length / 3];
   told.textContent = t === 0 ? "Nothing is drawn: the path has no line, or all its points are one." : `${v} vertices, ${t} triangles`;
   const hidden = $("numbers").checked && v > NUMBERED ? ` Vertex numbers are shown up to ${NUMBERED} vertices.` : "";
-  $("room").textContent = `Room: ${5 * v} floats and ${3 * t} numbers, ${20 * v + 12 * t} bytes.${hidden}`;
+  $("room").textContent = `Room: ${5 * v} floats, ${v} sources and ${3 * t} numbers, ${24 * v + 12 * t} bytes.${hidden}`;
 }
+
+// The triangle that was drawn last over a place, as the places of its three corners, or nothing.
+function tapped({ vertices, triangles }, x, y) {
+  for (let i = triangles.length - 3; i >= 0; i -= 3) {
+    const corners = [triangles[i], triangles[i + 1], triangles[i + 2]];
+    const turns = corners.map((from, k) => {
+      const [a, b] = [5 * from, 5 * corners[(k + 1) % 3]];
+      return (vertices[b] - vertices[a]) * (y - vertices[a + 1]) - (vertices[b + 1] - vertices[a + 1]) * (x - vertices[a]);
+    });
+    if (turns.every((turn) => turn >= 0) || turns.every((turn) => turn <= 0)) return corners;
+  }
+  return undefined;
+}
+
+// A tap on the stripe names the post, the path's point, that the nearest corner of the tapped triangle came from.
+function name(event) {
+  const picture = $("picture"), matrix = picture.getScreenCTM();
+  const got = answered;
+  if (!matrix || got.number !== 0) return;
+  const { x, y } = new DOMPoint(event.clientX, event.clientY).matrixTransform(matrix.inverse());
+  const corners = tapped(got, x, y);
+  document.querySelectorAll("#tap").forEach((old) => old.remove());
+  if (!corners) {
+    $("post").textContent = "";
+    return;
+  }
+  const far = (n) => Math.hypot(got.vertices[5 * n] - x, got.vertices[5 * n + 1] - y);
+  const nearest = corners.reduce((a, b) => (far(b) < far(a) ? b : a));
+  const [post, negative] = [got.sources[nearest] >> 1, got.sources[nearest] & 1];
+  $("post").textContent = `Post ${post}, ${negative ? "negative" : "positive"} side: (${got.coords[2 * post]}, ${got.coords[2 * post + 1]}), vertex ${nearest}`;
+  picture.append(element("circle", { id: "tap", cx: got.coords[2 * post], cy: got.coords[2 * post + 1], r: 5 / matrix.a, fill: "#9b1c0b" }));
+}
+
+let answered;
 
 function renew() {
   const text = $("text").value;
   const number = (id) => parseFloat($(id).value);
-  const got = answerTo(text, { width: number("width"), limit: number("limit"), join: number("join"), cap: number("cap"), merge: number("merge") });
-  draw(got);
-  mark(text, got);
-  tell(got);
+  answered = answerTo(text, { width: number("width"), limit: number("limit"), join: number("join"), cap: number("cap"), merge: number("merge") });
+  draw(answered);
+  mark(text, answered);
+  tell(answered);
+  $("post").textContent = "";
 }
 
 for (const name of Object.keys(EXAMPLES)) $("example").append(new Option(name, name));
@@ -166,6 +202,7 @@ $("example").addEventListener("change", () => {
 });
 document.addEventListener("input", (event) => { if (event.target.id !== "example") renew(); });
 $("text").addEventListener("scroll", () => { $("mirror").scrollTop = $("text").scrollTop; });
+$("picture").addEventListener("click", name);
 window.addEventListener("resize", renew);
 $("text").value = EXAMPLES[$("example").value].text;
 $("width").value = EXAMPLES[$("example").value].width;
