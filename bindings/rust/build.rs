@@ -3,6 +3,7 @@
 
 use std::env;
 use std::path::{Path, PathBuf};
+use std::process::exit;
 
 fn main() {
     println!("cargo:rerun-if-changed=build.rs");
@@ -11,10 +12,11 @@ fn main() {
     let archive = folder.join("libstipeharbor.a");
     println!("cargo:rerun-if-changed={}", archive.display());
     if !archive.is_file() {
-        println!(
-            "cargo:warning=no {}: run `rt staticlib stipeharbor`, or set STIPEHARBOR_LIB_DIR",
-            archive.display()
-        );
+        eprintln!("There is no {}.", archive.display());
+        eprintln!("In the repository of Stipeharbor, `rt staticlib stipeharbor` makes it for x86-64, where this crate looks by itself;");
+        eprintln!("`tools/native` makes target/native/TARGET/libstipeharbor.a for this machine and others:");
+        eprintln!("then set STIPEHARBOR_LIB_DIR to the folder that has it.");
+        exit(1);
     }
     println!("cargo:rustc-link-search=native={}", folder.display());
     println!("cargo:rustc-link-lib=static=stipeharbor");

@@ -5,18 +5,10 @@
 use std::fmt::Write as _;
 use std::io::{self, Read, Write};
 use std::process::ExitCode;
-use stipeharbor::{read, tessellate, Cap, Join, Options, Refusal, Source, MERGE_RANGE_LEAST};
+use stipeharbor::{read, tessellate, triangles, vertices, Options, Refusal, Source};
 
 /// The longest text that the program takes; the library takes longer ones.
 const TEXT_ROOM: usize = 16_384;
-
-const OPTIONS: Options = Options {
-    width: 2.0,
-    miter_limit: 4.0,
-    join: Join::Miter,
-    cap: Cap::Butt,
-    merge_range: MERGE_RANGE_LEAST,
-};
 
 fn drawn(text: &[u8]) -> Result<String, Refusal> {
     if text.len() > TEXT_ROOM {
@@ -24,33 +16,33 @@ fn drawn(text: &[u8]) -> Result<String, Refusal> {
     }
     let (mut verbs, mut coords) = ([0; 1024], [0.0; 2048]);
     let mut sources = [Source::default(); 1024];
-    let (mut vertices, mut triangles) = ([0.0; 5 * 1024], [0; 3 * 1536]);
+    let (mut floats, mut numbers) = ([0.0; 5 * 1024], [0; 3 * 1536]);
     let path = read(text, &mut verbs, &mut coords)?;
     let (verbs, coords) = (&verbs[..path.verbs], &coords[..path.coordinates]);
     let mesh = tessellate(
         verbs,
         coords,
-        OPTIONS,
-        &mut vertices,
+        Options::default(),
+        &mut floats,
         &mut sources,
-        &mut triangles,
+        &mut numbers,
     )?;
-    Ok(printed(
-        &vertices[..5 * mesh.vertices],
-        &triangles[..3 * mesh.triangles],
+    Ok(
+        printed(&floats[..5 * mesh.vertices], &numbers[..3 * mesh.triangles])
+            .expect("a string takes any text"),
     )
-    .expect("a string takes any text"))
 }
 
-fn printed(vertices: &[f32], triangles: &[u32]) -> Result<String, std::fmt::Error> {
+fn printed(floats: &[f32], numbers: &[u32]) -> Result<String, std::fmt::Error> {
     let mut out = String::new();
-    writeln!(out, "v {}", vertices.len() / 5)?;
-    for v in vertices.chunks_exact(5) {
-        writeln!(out, "{:08X} {:08X}", v[0].to_bits(), v[1].to_bits())?;
+    writeln!(out, "v {}", vertices(floats).len())?;
+    for vertex in vertices(floats) {
+        let [x, y] = vertex.position.map(f32::to_bits);
+        writeln!(out, "{:08X} {:08X}", x, y)?;
     }
-    writeln!(out, "t {}", triangles.len() / 3)?;
-    for t in triangles.chunks_exact(3) {
-        writeln!(out, "{} {} {}", t[0], t[1], t[2])?;
+    writeln!(out, "t {}", triangles(numbers).len())?;
+    for [a, b, c] in triangles(numbers) {
+        writeln!(out, "{} {} {}", a, b, c)?;
     }
     Ok(out)
 }
@@ -65,7 +57,8 @@ fn run() -> Result<bool, String> {
         .map_err(|error| format!("the input could not be read: {}", error))?;
     let page = drawn(&text);
     let meshed = page.is_ok();
-    let page = page.unwrap_or_else(|refusal| format!("{}\n", refusal));
+    let page = page
+        .unwrap_or_else(|refusal| format!("refused {} {}\n", refusal.number(), refusal.place()));
     let mut out = io::stdout();
     out.write_all(page.as_bytes())
         .and_then(|()| out.flush())

@@ -1,38 +1,81 @@
 //! The proved library's calls in safe Rust. A path goes in; the mesh of its stripe or one
 //! [`Refusal`] comes out.
 //!
-//! ```
-//! use stipeharbor::{tessellate, Cap, Join, Options, Side, Source, BEGIN, END_OPEN, LINE, MERGE_RANGE_LEAST};
+//! With lists of its own, and drawn in letters:
 //!
-//! let options = Options {
-//!     width: 2.0,
-//!     miter_limit: 4.0,
-//!     join: Join::Miter,
-//!     cap: Cap::Butt,
-//!     merge_range: MERGE_RANGE_LEAST,
+//! ```
+//! # #[cfg(feature = "std")] {
+//! use stipeharbor::{stripe_of, Options};
+//!
+//! let stripe = stripe_of(b"M2 2.5H22.5V9", Options { width: 3.0, ..Options::default() })?;
+//! assert_eq!((stripe.vertices().len(), stripe.triangles().len()), (6, 4));
+//!
+//! let turn = |a: [f32; 2], b: [f32; 2], x, y| (b[0] - a[0]) * (y - a[1]) - (b[1] - a[1]) * (x - a[0]);
+//! let painted = |x: f32, y: f32| {
+//!     stripe.corners().any(|[a, b, c]| {
+//!         let turns = [turn(a, b, x, y), turn(b, c, x, y), turn(c, a, x, y)];
+//!         turns.iter().all(|&t| t >= 0.0) || turns.iter().all(|&t| t <= 0.0)
+//!     })
 //! };
-//! let (verbs, coordinates) = ([BEGIN, LINE, END_OPEN], [0.0, 1.0, 2.0, 1.0]);
+//! let row = |y: i32| (0..26).map(|x| if painted(x as f32 + 0.5, y as f32 + 0.5) { '#' } else { '.' }).collect::<String>();
+//! assert_eq!((0..10).map(row).collect::<Vec<_>>(), [
+//!     "..........................",
+//!     "..######################..",
+//!     "..######################..",
+//!     "..######################..",
+//!     ".....................###..",
+//!     ".....................###..",
+//!     ".....................###..",
+//!     ".....................###..",
+//!     ".....................###..",
+//!     "..........................",
+//! ]);
+//!
+//! let refused = stripe_of(b"M0 0C1 1", Options::default()).unwrap_err();
+//! assert_eq!(refused.to_string(), "refused 9 4: from byte 4 on, counted from 0, it is no path text");
+//! # }
+//! # Ok::<(), stipeharbor::Refusal>(())
+//! ```
+//!
+//! With lists that are lent, and nothing allocated:
+//!
+//! ```
+//! use stipeharbor::{tessellate, Options, Side, Source, Verb};
+//!
+//! let verbs = [Verb::Begin, Verb::Line, Verb::EndOpen].map(u8::from);
+//! let coordinates = [0.0, 1.0, 2.0, 1.0];
 //! let (mut vertices, mut sources, mut triangles) = ([0.0; 5 * 4], [Source::default(); 4], [0; 3 * 2]);
-//! let mesh = tessellate(&verbs, &coordinates, options, &mut vertices, &mut sources, &mut triangles)?;
+//! let mesh = tessellate(&verbs, &coordinates, Options::default(), &mut vertices, &mut sources, &mut triangles)?;
 //! assert_eq!((mesh.vertices, mesh.triangles), (4, 2));
 //! assert_eq!((sources[3].endpoint(), sources[3].side()), (1, Side::Negative));
+//! assert_eq!(stipeharbor::vertices(&vertices).next().unwrap().position, [0.0, 2.0]);
 //! # Ok::<(), stipeharbor::Refusal>(())
 //! ```
 //!
 //! A refusal leaves every lent list as it was, but for those of a [`Radio`], and after a success the
 //! elements behind those counted keep what they had.
 //! The calls have no precondition, so this crate checks nothing: it hands slices over, which Rust
-//! keeps valid, aligned and apart.
+//! keeps valid, aligned and apart. Without the feature `std`, which is on where nothing is said, it
+//! needs no standard library, and has no call that returns a `Vec`.
 
+#![cfg_attr(not(feature = "std"), no_std)]
 #![deny(unsafe_op_in_unsafe_fn)]
 #![warn(missing_docs)]
 
+#[cfg(feature = "std")]
+mod owned;
+mod parts;
 mod radio;
 pub mod raw;
 mod refusal;
+mod verb;
 
+#[cfg(feature = "std")]
+pub use owned::{read_path, stl_corners, stl_file, stripe, stripe_of, Stripe};
+pub use parts::{triangles, vertices, Vertex};
 pub use radio::Radio;
 pub use refusal::Refusal;
+pub use verb::Verb;
 
 /// A verb that begins a run; it has two coordinates.
 pub const BEGIN: u8 = 0;
@@ -90,6 +133,20 @@ pub struct Options {
     /// out, and so are the last ones of a closed run that are so near its first:
     /// [`MERGE_RANGE_LEAST`] to [`MERGE_RANGE_MOST`].
     pub merge_range: f32,
+}
+
+/// Those of the program `./stripe`: width 2, miter limit 4, [`Join::Miter`], [`Cap::Butt`] and the
+/// least merge range.
+impl Default for Options {
+    fn default() -> Options {
+        Options {
+            width: 2.0,
+            miter_limit: 4.0,
+            join: Join::Miter,
+            cap: Cap::Butt,
+            merge_range: MERGE_RANGE_LEAST,
+        }
+    }
 }
 
 /// The side of a path, seen along it where y points up.
@@ -279,21 +336,6 @@ pub fn stl_read(bytes: &[u8], corners: &mut [f32]) -> Result<usize, Refusal> {
     let number = raw::stl_read(bytes, corners, &mut answer);
     let [place, count] = answer;
     Refusal::or(number, place, 0, 0).map(|()| count)
-}
-
-/// [`stl_write`] into a list of its own.
-pub fn stl_file(vertices: &[f32], triangles: &[u32]) -> Result<Vec<u8>, Refusal> {
-    let mut bytes = vec![0; 84 + 50 * (triangles.len() / 3)];
-    stl_write(vertices, triangles, &mut bytes)?;
-    Ok(bytes)
-}
-
-/// [`stl_read`] into a list of its own: a triangle takes 50 bytes of the file and six floats here.
-pub fn stl_corners(bytes: &[u8]) -> Result<Vec<f32>, Refusal> {
-    let mut corners = vec![0.0; 6 * (bytes.len() / 50)];
-    let count = stl_read(bytes, &mut corners)?;
-    corners.truncate(count);
-    Ok(corners)
 }
 
 /// Puts a stored list over the start of `wide`, and says how many numbers: what [`tessellate`]

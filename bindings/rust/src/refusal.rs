@@ -1,7 +1,6 @@
 //! The refusals, each with what it carries.
 
-use std::error::Error;
-use std::fmt;
+use core::fmt;
 
 /// Why a call was refused. Where more than one would fit, it is the one of the least number.
 #[derive(Clone, Copy, Debug, PartialEq, Eq)]
@@ -192,9 +191,34 @@ impl Refusal {
 }
 
 impl fmt::Display for Refusal {
+    /// The number, the place and what they mean, as `refused 9 4: from byte 4 on, ..`.
     fn fmt(&self, f: &mut fmt::Formatter<'_>) -> fmt::Result {
-        write!(f, "refused {} {}", self.number(), self.place())
+        write!(f, "refused {} {}: ", self.number(), self.place())?;
+        match *self {
+            Refusal::OutOfRange => write!(f, "an option is outside its range, or NaN"),
+            Refusal::TooManyVerbs => write!(f, "the path has more than {} verbs", crate::VERB_LIMIT),
+            Refusal::Verb { place } => write!(f, "verb {place}, counted from 0, is unknown or misplaced, or the path ends there without an end verb or with coordinates that are not two to each begin or line"),
+            Refusal::Coordinate { place } => write!(f, "coordinate {place}, counted from 0, is not finite or too large"),
+            Refusal::VertexRoom { vertices, triangles } => write!(f, "there is room for too few vertices: the mesh has {vertices}, and {triangles} triangles"),
+            Refusal::TriangleRoom { vertices, triangles } => write!(f, "there is room for too few triangles: the mesh has {triangles}, and {vertices} vertices"),
+            Refusal::TooLong => write!(f, "the text has more than {} bytes", crate::TEXT_LIMIT),
+            Refusal::OutOfForm { place } => write!(f, "from byte {place} on, counted from 0, it is no path text"),
+            Refusal::TooLarge { place } => write!(f, "the number at byte {place}, counted from 0, is beyond 32768, or leads there"),
+            Refusal::NoRoom => write!(f, "a lent list is too short, or the path has more than {} verbs", crate::VERB_LIMIT),
+            Refusal::NoRoot => write!(f, "a negative, -0, an infinity or a NaN has no root here"),
+            Refusal::FileRoom => write!(f, "the byte list is too short for the STL file: it takes 84 bytes and 50 to a triangle"),
+            Refusal::FileLength => write!(f, "the STL file is not as long as its count of triangles says"),
+            Refusal::Corner { place } => write!(f, "triangle {place}, counted from 0, has a corner that is not finite, that does not lie in the plane or that has no vertex"),
+            Refusal::ListRoom => write!(f, "the list is too short for what is put there"),
+            Refusal::WideNumber { place } => write!(f, "number {place}, counted from 0, is above {}", crate::NARROW_MOST),
+            Refusal::ListLength => write!(f, "the index list's length is no multiple of three"),
+            Refusal::NumberTooLarge { place } => write!(f, "number {place} of the index list, counted from 0, has no vertex"),
+            Refusal::TwoAlike { place } => write!(f, "triangle {place}, counted from 0, names a vertex twice"),
+            Refusal::VertexUnnamed { place } => write!(f, "vertex {place}, counted from 0, is named by no triangle"),
+            Refusal::NotAttached { place } => write!(f, "triangle {place}, counted from 0, shares exactly two vertices with none before it"),
+        }
     }
 }
 
-impl Error for Refusal {}
+#[cfg(feature = "std")]
+impl std::error::Error for Refusal {}

@@ -243,7 +243,15 @@ fn our_meshes_pass() {
 #[test]
 fn in_words() {
     let refusal = Refusal::OutOfForm { place: 4 };
-    assert_eq!(refusal.to_string(), "refused 9 4");
+    let told = "refused 9 4: from byte 4 on, counted from 0, it is no path text";
+    assert_eq!(refusal.to_string(), told);
+    let (vertices, triangles) = (4, 2);
+    let room = Refusal::VertexRoom {
+        vertices,
+        triangles,
+    }
+    .to_string();
+    assert!(room.starts_with("refused 6 0: ") && room.contains("has 4, and 2 triangles"));
     assert_eq!((refusal.number(), refusal.place()), (9, 4));
     assert_eq!((Refusal::NoRoot.number(), Refusal::NoRoot.place()), (13, 0));
 }
