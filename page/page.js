@@ -1,9 +1,8 @@
 "use strict";
-// Draws what the library answers, and decides nothing: the text goes to stipeharbor_read, its path to stipeharbor_tessellate, and what these leave in memory becomes SVG.
+// Draws what the library answers, and decides nothing: the text goes to stipeharbor_read, its path to stipeharbor_measure and stipeharbor_tessellate, and what these leave in memory becomes SVG.
 
 const VERB_LIMIT = 65536;
 const TEXT_LIMIT = 1048576;
-const ROOM_REFUSED = 6;
 // More numbers than these cannot be read in a picture.
 const NUMBERED = 2000;
 
@@ -44,14 +43,12 @@ function answerTo(text, options) {
   let number = library.stipeharbor_read(source, encoded.length, verbs, VERB_LIMIT, coords, 2 * VERB_LIMIT, answer, 3);
   if (number !== 0) return { number, place: told()[0], encoded };
   const [, verbCount, coordCount] = told();
-  const stroke = (vertices, sources, v, triangles, t) =>
-    library.stipeharbor_tessellate(verbs, verbCount, coords, coordCount, options.width, options.limit, options.join, options.cap, options.merge, vertices, 5 * v, sources, v, triangles, 3 * t, answer, 3);
-  // With no room lent the refusal says how much is needed.
-  number = stroke(0, 0, 0, 0, 0);
+  const stroke = [verbs, verbCount, coords, coordCount, options.width, options.limit, options.join, options.cap, options.merge];
+  number = library.stipeharbor_measure(...stroke, answer, 3);
   const [place, v, t] = told();
-  if (number !== 0 && number !== ROOM_REFUSED) return { number, place, encoded };
+  if (number !== 0) return { number, place, encoded };
   const [, , , , vertices, sources, triangles] = lend(...rooms, 20 * v, 4 * v, 12 * t);
-  number = stroke(vertices, sources, v, triangles, t);
+  number = library.stipeharbor_tessellate(...stroke, vertices, 5 * v, sources, v, triangles, 3 * t, answer, 3);
   if (number !== 0) return { number, place: told()[0], encoded };
   return {
     number,

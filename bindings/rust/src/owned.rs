@@ -1,6 +1,6 @@
 //! The calls with lists of their own, as long as they have to be.
 
-use crate::{parts, read, stl_read, stl_write, tessellate, Mesh};
+use crate::{measure, parts, read, stl_read, stl_write, tessellate, Mesh};
 use crate::{Options, Refusal, Source, Vertex, VERB_LIMIT};
 use std::vec;
 use std::vec::Vec;
@@ -34,25 +34,23 @@ impl Stripe {
     }
 }
 
-/// [`tessellate`] into lists of its own: it is asked for the counts first.
+/// [`tessellate`] into lists of its own: the mesh is measured first.
 pub fn stripe(verbs: &[u8], coordinates: &[f32], options: Options) -> Result<Stripe, Refusal> {
-    let mut made = Stripe::default();
-    let asked = tessellate(verbs, coordinates, options, &mut [], &mut [], &mut []);
-    if let Err(Refusal::VertexRoom {
+    let Mesh {
         vertices,
         triangles,
-    }) = asked
-    {
-        made.vertices.resize(5 * vertices, 0.0);
-        made.sources.resize(vertices, Source::default());
-        made.triangles.resize(3 * triangles, 0);
-    }
+    } = measure(verbs, coordinates, options)?;
+    let mut made = Stripe {
+        vertices: vec![0.0; 5 * vertices],
+        sources: vec![Source::default(); vertices],
+        triangles: vec![0; 3 * triangles],
+    };
     let Stripe {
         vertices,
         sources,
         triangles,
     } = &mut made;
-    let Mesh { .. } = tessellate(verbs, coordinates, options, vertices, sources, triangles)?;
+    tessellate(verbs, coordinates, options, vertices, sources, triangles)?;
     Ok(made)
 }
 

@@ -211,11 +211,13 @@ impl fmt::Display for Refusal {
             Refusal::Corner { place } => write!(f, "triangle {place}, counted from 0, has a corner that is not finite, that does not lie in the plane or that has no vertex"),
             Refusal::ListRoom => write!(f, "the list is too short for what is put there"),
             Refusal::WideNumber { place } => write!(f, "number {place}, counted from 0, is above {}", crate::NARROW_MOST),
+            Refusal::NoRun => write!(f, "the path has no run of that number; runs are counted from 0, one to each begin"),
             Refusal::ListLength => write!(f, "the index list's length is no multiple of three"),
             Refusal::NumberTooLarge { place } => write!(f, "number {place} of the index list, counted from 0, has no vertex"),
             Refusal::TwoAlike { place } => write!(f, "triangle {place}, counted from 0, names a vertex twice"),
             Refusal::VertexUnnamed { place } => write!(f, "vertex {place}, counted from 0, is named by no triangle"),
             Refusal::NotAttached { place } => write!(f, "triangle {place}, counted from 0, shares exactly two vertices with none before it"),
+            Refusal::AfterClose => write!(f, "the text is closed already, and no new one was started"),
         }
     }
 }

@@ -3,9 +3,9 @@
 use stipeharbor::{check, check_attached, compute_normal, read, root, tessellate};
 use stipeharbor::{measure, run_vertices};
 use stipeharbor::{narrow, stl_corners, stl_file, stl_read, stl_write, widen};
-use stipeharbor::{Side, Source};
 use stipeharbor::{raw, Radio, RADIO_WORDS};
 use stipeharbor::{Cap, Join, Mesh, Options, Path, Refusal, BEGIN, END_CLOSED, END_OPEN, LINE};
+use stipeharbor::{Side, Source};
 use stipeharbor::{MERGE_RANGE_LEAST, MERGE_RANGE_MOST, TEXT_LIMIT};
 
 const OPTIONS: Options = Options {

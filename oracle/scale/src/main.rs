@@ -29,7 +29,7 @@ enum Of {
     Big,
 }
 
-const KINDS: [(&str, Of); 15] = [
+const KINDS: [(&str, Of); 17] = [
     ("mesh", Of::Call(Kind::Mesh)),
     ("read", Of::Call(Kind::Read)),
     ("root", Of::Call(Kind::Root)),
