@@ -1,0 +1,2 @@
+-- `Drawing`: the pen draws the dashes of a run.
+pub mod Drawing
