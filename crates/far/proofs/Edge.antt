@@ -21,13 +21,13 @@ use Rattle.far.proofs.Moved.{moved}
 
 -- ---- two points: nearness, by the distance in a component
 module _ {p q : Endpoint} (P : Inside p) (Q : Inside q) where
-  abbrev gap-x : Gap 32768 (p .position .x) (q .position .x)
+  abbrev pub gap-x : Gap 32768 (p .position .x) (q .position .x)
   gap-x = gap 32768 (p .position .x) (q .position .x) (lit< tt) (coordinate (p .position .x) (P .x)) (coordinate (q .position .x) (Q .x))
 
-  abbrev gap-y : Gap 32768 (p .position .y) (q .position .y)
+  abbrev pub gap-y : Gap 32768 (p .position .y) (q .position .y)
   gap-y = gap 32768 (p .position .y) (q .position .y) (lit< tt) (coordinate (p .position .y) (P .y)) (coordinate (q .position .y) (Q .y))
 
-  near-apart : (limit : Float) → Limit limit → near limit p q ≡ false → Apart gap-x ⊎ Apart gap-y
+  pub near-apart : (limit : Float) → Limit limit → near limit p q ≡ false → Apart gap-x ⊎ Apart gap-y
   unfolding nearOf vector.minusOf vector.squareLengthOf
   near-apart limit l e = not-near-apart gap-x gap-y limit (l .size) (l .value) (l .least) e
 

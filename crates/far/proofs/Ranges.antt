@@ -83,7 +83,7 @@ width-bound w t =
     small : (x y : ℕ) → x * 1 ≤ 1 * 16384 * y → x ≤ 16384 * y
     small x y h = omega arith
 
-half-value : HasValue (ofBits binary32 0x3f000000) false 1 2
+pub half-value : HasValue (ofBits binary32 0x3f000000) false 1 2
 unfolding ofBits
 half-value = (refl, refl)
 
@@ -157,7 +157,7 @@ module _ (o : Options) (e : inRange o ≡ true) where
   unfolding inRange
   floats-in = and-l floats (joinIn (o .«line_join») && capIn (o .cap)) (told (inRange o) e)
 
-  width-in : T (widthIn (o .width))
+  pub width-in : T (widthIn (o .width))
   width-in = and-l (widthIn (o .width)) (limitIn (o .«miter_limit»)) (and-l (widthIn (o .width) && limitIn (o .«miter_limit»)) (mergeIn (o .«merge_range»)) floats-in)
 
   merge-in : T (mergeIn (o .«merge_range»))
@@ -171,7 +171,7 @@ accepted options o e = chosen (inRange options) (preparedOf options) _ refl e
     chosen true s refused r e = (refl, ap (λ (a : StrokeAnswer). a .stroke) e)
     chosen false s refused r e = let n = ap (λ (a : StrokeAnswer). a .number) e in absurd (omega (arith, r, n))
 
-prepared-half : (o : Options) → preparedOf o .«half_width» ≡ mul binary32 (o .width) (ofBits binary32 0x3f000000)
+pub prepared-half : (o : Options) → preparedOf o .«half_width» ≡ mul binary32 (o .width) (ofBits binary32 0x3f000000)
 unfolding preparedOf
 prepared-half o = refl
 

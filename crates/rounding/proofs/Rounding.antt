@@ -1,13 +1,14 @@
--- What rounding to f32 keeps of a fraction n / c, in whole numbers alone: the bounds that an f32 can be, all but half a place, and half of the number.
+-- What rounding to f32 keeps of a fraction n / c, in whole numbers alone: the bounds that an f32 can be, all but half a place, half of the number, and
+-- a number that is rounded already.
 -- By way of: the nearest whole number is within a half; the digits dropped are those above 24; the rounded number is a nearest one, in places.
 -- Assumes nothing.
 use mathlib.Core.Path.{_≡_, sym, ap, _∙_, subst}
 use Prim.Native.Nat.{ℕ, zero, suc, _+_, _-_, _*_, _/_, _%_, _^_, _≤_, _<_, compare, Ordering, Ordering·lt, Ordering·eq, Ordering·gt}
-use native.Mathlib.Nat.{le-trans, le-of-eq, le-of-lt, lt-of-not-le, lt-of-lt-of-le, lt-of-le-of-lt, mul-assoc, mul-comm, mul-right-comm, mul-le-mul-right, mul-lt-mul-of-pos-right, le-of-mul-le-mul-right, mul-pos, mod-lt, div-add-mod', le-div-iff-mul-le, div-lt-iff-lt-mul}
+use native.Mathlib.Nat.{le-trans, le-antisymm, le-of-eq, le-of-lt, lt-of-not-le, lt-of-lt-of-le, lt-of-le-of-lt, one-mul, mul-assoc, mul-comm, mul-right-comm, mul-le-mul-right, mul-lt-mul-of-pos-right, le-of-mul-le-mul-right, mul-pos, mod-lt, div-add-mod', le-div-iff-mul-le, div-lt-iff-lt-mul}
 use native.Mathlib.Decide.{decLe}
 use native.Mathlib.Omega.{arith}
 use mathlib.Core.Bool.{not}
-use lib.Dec.{T, isLe, isEq, leb→le, nleb→lt, eqb→eq}
+use lib.Dec.{T, lit<, isLe, isEq, leb→le, nleb→lt, eqb→eq}
 use lib.Pow.{pow-add, pow-pos, pow-mono}
 use lib.Ieee.{size, nearest}
 use lib.Ieee.Digits.{size-lt, size-le, size-reaches}
@@ -60,6 +61,13 @@ module _ (n c : ℕ) (C : 0 < c) where
     where
       above-24 : (z : ℕ) → z ≤ 24 + j → z - 24 ≤ j
       above-24 z h = omega arith
+
+  -- and enough of them
+  pub drop-enough : n < 2 ^ (24 + drop 24 n c) * c
+  drop-enough = div-lt-iff-lt-mul C .0 (lt-of-lt-of-le (size-lt (n / c)) (pow-mono (first (size (n / c)))))
+    where
+      first : (z : ℕ) → z ≤ 24 + (z - 24)
+      first z = omega arith
 
   -- and then the 24 first are all there
   drop-full : (j : ℕ) → j < drop 24 n c → 2 ^ 23 * (c * 2 ^ drop 24 n c) ≤ n
@@ -150,3 +158,25 @@ module _ (n c : ℕ) (C : 0 < c) where
     where
       at-most : (x y u : ℕ) → x ≡ y → 2 * n ≤ 2 * y + u → u ≤ n → n ≤ 2 * x
       at-most x y u s b l = omega arith
+
+-- what is at least a rounded number, which is an f32, is rounded to at least that
+module _ (n c m d : ℕ) (C : 0 < c) (D : 0 < d) where
+  abbrev k : ℕ
+  k = drop 24 n c
+
+  digits-le : kept 24 n c ≤ 2 ^ 24
+  digits-le =
+      closest-le n (c * 2 ^ k) (mul-pos C (pow-pos k)) (2 ^ 24)
+      (le-trans (le-of-lt (drop-enough n c C)) (le-of-eq (ap (λ (x : ℕ). x * c) (pow-add 2 24 k) ∙ mul-assoc (2 ^ 24) (2 ^ k) c ∙ ap (λ (x : ℕ). 2 ^ 24 * x) (mul-comm (2 ^ k) c))))
+
+  pub le-rounded-again : rounded n c * d ≤ m → rounded n c ≤ rounded m d
+  unfolding rounded
+  le-rounded-again h = go (decLe (2 ^ 24) (kept 24 n c))
+    where
+      -- rounded up to a digit more
+      up : kept 24 n c * 2 ^ k ≡ 1 * 2 ^ (24 + k) → kept 24 n c * 2 ^ k ≤ rounded m d
+      up e = le-trans (le-of-eq e) (le-rounded m d D 1 (24 + k) (lit< tt) (le-trans (le-of-eq (ap (λ (x : ℕ). x * d) (sym e))) h))
+
+      go : Dec (2 ^ 24 ≤ kept 24 n c) → kept 24 n c * 2 ^ k ≤ rounded m d
+      go (yes l) = up (ap (λ (x : ℕ). x * 2 ^ k) (le-antisymm digits-le l) ∙ sym (pow-add 2 24 k) ∙ sym (one-mul (2 ^ (24 + k))))
+      go (no f) = le-rounded m d D (kept 24 n c) k (lt-of-not-le f) h

@@ -163,18 +163,18 @@ inverse m w u U R h = go (R .low)
     go k = omega (arith, k, h, U)
 
 -- ---- the quotient's bound
-pub below : (x y m u : ℕ) → Unity x y u → 45 * u ≤ 10000 * m → x ≤ 256 * m
-below x y m u L h = go (decLe x (256 * m))
+pub below : (x y m u : ℕ) → Unity x y u → 45 * u ≤ 10000 * m → x ≤ 223 * m
+below x y m u L h = go (decLe x (223 * m))
   where
-    over : 256 * m + 1 ≤ x → 11 * u ≤ 10 * x
+    over : 223 * m + 1 ≤ x → 1003 * u ≤ 1000 * x
     over k = omega arith
 
-    clash : 11 * u ≤ 10 * x → 256 * m + 1 ≤ x → 1048576 * (x * x + y * y) ≤ 1048577 * (u * u) → ⊥
+    clash : 1003 * u ≤ 1000 * x → 223 * m + 1 ≤ x → 1048576 * (x * x + y * y) ≤ 1048577 * (u * u) → ⊥
     clash i k l = omega (arith, mul-le-mul i i, mul-le-mul k k)
 
-    next : 256 * m < x → 256 * m + 1 ≤ x
+    next : 223 * m < x → 223 * m + 1 ≤ x
     next k = omega arith
 
-    go : Dec (x ≤ 256 * m) → x ≤ 256 * m
+    go : Dec (x ≤ 223 * m) → x ≤ 223 * m
     go (yes k) = k
     go (no f) = let k = next (lt-of-not-le f) in absurd (clash (over k) k (L .high))

@@ -1,4 +1,4 @@
--- The join's normal of two unit vectors is at most 256 in a component. Assumes nothing.
+-- The join's normal of two unit vectors is at most 223 in a component: their sum is not short, or there is none. Assumes nothing.
 use mathlib.Core.Path.{_≡_, refl, sym, subst}
 use Prim.Native.Nat.{ℕ, _+_, _*_, _^_, _≤_, _<_}
 use native.Mathlib.Nat.{le-trans, mul-le-mul, mul-le-mul-right}
@@ -97,11 +97,11 @@ and-false : (a b : Bool) → b ≡ false → (a && b) ≡ false
 and-false true b e = e
 and-false false b e = refl
 
--- finite, and at most 256 in a component
+-- finite, and at most 223 in a component
 pub record Reach (v : Point) : Type 0 where
   pub at : Components v
-  pub x-in : at .x ≤ 256 * one
-  pub y-in : at .y ≤ 256 * one
+  pub x-in : at .x ≤ 223 * one
+  pub y-in : at .y ≤ 223 * one
 
 nothing : Reach (point (f32 0) (f32 0))
 unfolding ofBits one
@@ -233,17 +233,23 @@ module _ (v1 v2 : Point) (U1 : UnitVector v1) (U2 : UnitVector v2) where
           let I = inverse-is in
           and-false (lt (neg epsilon) inv) (lt inv epsilon) (lt-value inv epsilon (I .0) least one one-pos (I .1) epsilon-is .1 (more (I .0) least one least-low (I .2)))
 
-      -- and the quotients are at most 256
+      -- and the quotients are at most 223
       divided : Reach (point (div binary32 (neg ny) inv) (div binary32 nx inv))
       divided =
           let I = inverse-is in
           let U = unity-of (plusOf v1 v2) c N in
           let M : 0 < I .0 = positive (I .0) one one-pos (I .2) in
-          let x = over (neg ny) inv (not (c .t)) Y (I .0) 256 (whole 256 (lit< tt)) (negated-value ny (c .t) Y one (N .y .value)) (I .1) M (below Y X (I .0) one (swapped X Y one U) (I .2)) in
-          let y = over nx inv (c .s) X (I .0) 256 (whole 256 (lit< tt)) (N .x .value) (I .1) M (below X Y (I .0) one U (I .2)) in
+          let x = over (neg ny) inv (not (c .t)) Y (I .0) 223 (whole 223 (lit< tt)) (negated-value ny (c .t) Y one (N .y .value)) (I .1) M (below Y X (I .0) one (swapped X Y one U) (I .2)) in
+          let y = over nx inv (c .s) X (I .0) 223 (whole 223 (lit< tt)) (N .x .value) (I .1) M (below X Y (I .0) one U (I .2)) in
           record { at = record { s = not (c .t); x = x .m; x-is = x .value; t = c .s; y = y .m; y-is = y .value }; x-in = x .within; y-in = y .within }
 
--- ---- the join's normal
+-- ---- the join's normal, where the sum is not short
+pub past-threshold : (v1 v2 : Point) → UnitVector v1 → UnitVector v2 → lt (squareLengthOf (plusOf v1 v2)) epsilon ≡ false
+    → let n = turnedOf (normalizeOf (plusOf v1 v2)) in Reach (dividedOf n (dotOf n (turnedOf v1)))
+unfolding dotOf dividedOf turnedOf
+past-threshold v1 v2 U1 U2 e = let S = summed-up v1 v2 U1 U2 in divided v1 v2 U1 U2 S (long-enough (plusOf v1 v2) (S .at) (S .within) e)
+
+-- and where it may be
 pub bounded : (v1 v2 : Point) → UnitVector v1 → UnitVector v2 → Reach (normalOf v1 v2)
 unfolding normalOf dotOf dividedOf turnedOf
 bounded v1 v2 U1 U2 = go (lt (squareLengthOf (plusOf v1 v2)) epsilon) refl
@@ -255,4 +261,4 @@ bounded v1 v2 U1 U2 = go (lt (squareLengthOf (plusOf v1 v2)) epsilon) refl
         let S = summed-up v1 v2 U1 U2 in
         let far = long-enough (plusOf v1 v2) (S .at) (S .within) e in
         subst (λ (b : Bool). Reach (pick b (turnedOf v1) (dividedOf (turnedOf (normalizeOf (plusOf v1 v2))) (dotOf (turnedOf (normalizeOf (plusOf v1 v2))) (turnedOf v1)))))
-        (sym (not-small v1 v2 U1 U2 S far)) (divided v1 v2 U1 U2 S far)
+        (sym (not-small v1 v2 U1 U2 S far)) (past-threshold v1 v2 U1 U2 e)

@@ -2,15 +2,15 @@
 -- half where m has less than 24 digits. `Rel` has it for sums and for squares, so that a sum of squares needs no cross terms. Assumes nothing.
 use mathlib.Core.Path.{_≡_, refl, sym, ap, _∙_, subst}
 use Prim.Native.Nat.{ℕ, zero, suc, _+_, _-_, _*_, _/_, _^_, _≤_, _<_}
-use native.Mathlib.Nat.{le-trans, le-of-eq, le-of-lt, lt-of-not-le, lt-of-lt-of-le, mul-assoc, mul-le-mul, mul-le-mul-right, le-of-mul-le-mul-right, mul-pos, le-div-iff-mul-le, div-lt-iff-lt-mul}
+use native.Mathlib.Nat.{le-trans, le-of-eq, le-of-lt, lt-of-not-le, mul-assoc, mul-le-mul, mul-le-mul-right, le-of-mul-le-mul-right, mul-pos, le-div-iff-mul-le}
 use native.Mathlib.Decide.{decLe}
 use native.Mathlib.Omega.{arith}
 use lib.Dec.{lit<}
-use lib.Pow.{pow-add, pow-mono}
+use lib.Pow.{pow-add}
 use lib.Ieee.{size}
-use lib.Ieee.Digits.{size-lt, size-reaches}
+use lib.Ieee.Digits.{size-reaches}
 use lib.Ieee.Order.{drop}
-use Rattle.rounding.proofs.Rounding.{rounded, rounded-le, rounded-error}
+use Rattle.rounding.proofs.Rounding.{rounded, drop-enough, rounded-le, rounded-error}
 
 -- m times c is n, rounded to 24 digits or to a whole m: for sums, and for squares
 pub record Rel (m c n : ℕ) : Type 0 where
@@ -85,18 +85,11 @@ cancel m c n k K R = record {
     two-low m c n k h = omega arith
 
 -- ---- the place of the last digit kept
-room : (z : ℕ) → z ≤ 24 + (z - 24)
-room z = omega arith
-
 many : (z j : ℕ) → z - 24 ≡ suc j → 23 + suc j < z
 many z j h = omega arith
 
 module _ (n c : ℕ) (C : 0 < c) where
-  -- no digit above the 24 kept
-  below : n < 2 ^ (24 + drop 24 n c) * c
-  below = div-lt-iff-lt-mul C .0 (lt-of-lt-of-le (size-lt (n / c)) (pow-mono (room (size (n / c)))))
-
-  -- and they are all there, where a digit is dropped
+  -- the 24 digits kept are all there, where a digit is dropped
   full : (j : ℕ) → drop 24 n c ≡ suc j → 2 ^ (23 + suc j) * c ≤ n
   full j e = le-div-iff-mul-le C .0 (size-reaches (n / c) (23 + suc j) (many (size (n / c)) j e))
 
@@ -110,7 +103,7 @@ module _ (n c : ℕ) (C : 0 < c) where
       within x p l h k = (omega arith, omega arith)
 
       at : (k : ℕ) → drop 24 n c ≡ k → n < 2 ^ (24 + k) * c
-      at k e = subst (λ (i : ℕ). n < 2 ^ (24 + i) * c) e below
+      at k e = subst (λ (i : ℕ). n < 2 ^ (24 + i) * c) e (drop-enough n c C)
 
       one-c : (x y c : ℕ) → 2 * x ≤ 2 * y + 2 ^ 0 * c → 2 * x ≤ 2 * y + c
       one-c x y c h = omega arith
