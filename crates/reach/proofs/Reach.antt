@@ -47,8 +47,8 @@ at-most : {z : Float} {k : ℕ} → Bounded z k → AtMost k z
 unfolding one
 at-most b = record { down = b .s; units = b .size; value = b .value; most = b .within }
 
-looser : {z : Float} (j k : ℕ) → j ≤ k → AtMost j z → AtMost k z
-looser j k l a = record { down = a .down; units = a .units; value = a .value; most = le-trans (a .most) (mul-le-mul-right (2 ^ 149) l) }
+looser : {z : Float} {j k : ℕ} → AtMost j z → j ≤ k → AtMost k z
+looser a l = record { down = a .down; units = a .units; value = a .value; most = le-trans (a .most) (mul-le-mul-right (2 ^ 149) l) }
 
 -- ---- why: past the threshold
 pub normal-bounded : PastThreshold
@@ -201,12 +201,7 @@ proved verbs coords options l e f i h = reached verbs coords options l e f i h
 pub asked : Asked
 asked verbs coords options l e f i h =
     let r = proved verbs coords options l e f i h in
-    record {
-      x = looser 1892352 4194304 (lit≤ tt) (r .x);
-      y = looser 1892352 4194304 (lit≤ tt) (r .y);
-      normal-x = looser 227 257 (lit≤ tt) (r .normal-x);
-      normal-y = looser 227 257 (lit≤ tt) (r .normal-y);
-    }
+    record { x = looser (r .x) (lit≤ tt); y = looser (r .y) (lit≤ tt); normal-x = looser (r .normal-x) (lit≤ tt); normal-y = looser (r .normal-y) (lit≤ tt) }
 
 pub advances : Advances
 advances verbs coords options l e = (advanced verbs coords options l e, falling verbs coords options l e)

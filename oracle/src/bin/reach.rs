@@ -1,0 +1,215 @@
+//! `reach SEED COUNT`: W-214's search, at the limits' corners. Each of that many corners of accepted
+//! paths is worked with each join, and the greatest x or y that rule 8 writes of it is kept, with
+//! the corner that gave it. Ends with 1 where Miter or Bevel reach beyond what is proved.
+
+use oracle::endpoint::{Endpoint, EndpointId, LineJoin};
+use oracle::gen::{ulps, Rng};
+use oracle::join::work;
+use oracle::mesh::{LIMITS, MERGES, WIDTHS};
+use oracle::path::are_near;
+use oracle::plane::{point, Point};
+use oracle::vertices::{write_joint, Mesh};
+use std::env;
+use std::f32::consts::{FRAC_PI_2, PI};
+use std::process::ExitCode;
+
+/// Document 01: "Coordinates are finite, -32,768 to 32,768."
+const FURTHEST: f32 = 32_768.0;
+/// What crates/reach proves of all joins but MiterClip.
+const PROVED: f32 = 1_892_352.0;
+const JOINS: [LineJoin; 3] = [LineJoin::Miter, LineJoin::Bevel, LineJoin::MiterClip];
+
+/// A point with the one before it and the one behind it.
+#[derive(Clone, Copy)]
+struct Corner {
+    points: [Point; 3],
+    half_width: f32,
+    limit: f32,
+}
+
+#[derive(Clone, Copy)]
+struct Found {
+    corner: Corner,
+    reach: f32,
+    normal: f32,
+}
+
+fn main() -> ExitCode {
+    let words: Vec<String> = env::args().skip(1).collect();
+    match (
+        words.first().map(|w| w.parse()),
+        words.get(1).map(|w| w.parse()),
+    ) {
+        (Some(Ok(seed)), Some(Ok(count))) if words.len() == 2 => search(seed, count),
+        _ => {
+            eprintln!("reach SEED COUNT");
+            ExitCode::from(2)
+        }
+    }
+}
+
+fn search(seed: u64, count: u64) -> ExitCode {
+    let mut rng = Rng::new(seed);
+    let mut greatest: [Option<Found>; 3] = [None; 3];
+    let mut mesh = Mesh::default();
+    let mut worked = 0;
+    while worked < count {
+        let best = greatest[rng.below(3)];
+        let corner = match best {
+            Some(found) if rng.one_in(4) => about(&mut rng, found.corner),
+            _ => any(&mut rng),
+        };
+        if !corner.accepted() {
+            continue;
+        }
+        worked += 1;
+        for (join, greatest) in JOINS.into_iter().zip(&mut greatest) {
+            let found = corner.found(join, &mut mesh);
+            if greatest.map_or(true, |g| found.reach > g.reach) {
+                *greatest = Some(found);
+            }
+        }
+    }
+    println!("{} corners, each with three joins", worked);
+    for (join, found) in JOINS.into_iter().zip(greatest) {
+        if let Some(f) = found {
+            println!(
+                "{:?}: {}, the greatest normal there {}",
+                join, f.reach, f.normal
+            );
+            println!("  {:?}", f.corner.points.map(|p| (p.x, p.y)));
+            println!(
+                "  half width {}, limit {}",
+                f.corner.half_width, f.corner.limit
+            );
+        }
+    }
+    let beyond = |found: &Option<Found>| found.map_or(false, |f| f.reach > PROVED);
+    ExitCode::from(u8::from(greatest[..2].iter().any(beyond)))
+}
+
+impl Corner {
+    /// The points are inside the limits, and rule 1 keeps them at the least merge range.
+    fn accepted(&self) -> bool {
+        let inside = |p: &Point| p.x.abs() <= FURTHEST && p.y.abs() <= FURTHEST;
+        let near = MERGES.0 * MERGES.0;
+        self.points.iter().all(inside)
+            && self.points.windows(2).all(|w| !are_near(near, w[0], w[1]))
+    }
+
+    /// The greatest x or y, and the greatest normal, that are written of the join.
+    fn found(&self, join: LineJoin, mesh: &mut Mesh) -> Found {
+        let mut advancement = 0.0;
+        let mut last = self.points[0];
+        let ends = self.points.map(|position| {
+            advancement += (position - last).length();
+            last = position;
+            Endpoint {
+                number: EndpointId(0),
+                position,
+                half_width: self.half_width,
+                advancement,
+                line_join: join,
+                ..Endpoint::zero()
+            }
+        });
+        mesh.vertices.clear();
+        mesh.sources.clear();
+        write_joint(&work(&ends[0], &ends[1], &ends[2], self.limit), mesh);
+        let most = |from: usize| {
+            let sizes = mesh
+                .vertices
+                .iter()
+                .map(|v| v[from].abs().max(v[from + 1].abs()));
+            sizes.fold(0.0, f32::max)
+        };
+        Found {
+            corner: *self,
+            reach: most(0),
+            normal: most(2),
+        }
+    }
+}
+
+/// A corner of the limits: it runs out towards them, and back.
+fn any(rng: &mut Rng) -> Corner {
+    let at = point(coordinate(rng), coordinate(rng));
+    let out = match rng.below(3) {
+        0 => FRAC_PI_2 * rng.below(4) as f32,
+        1 => FRAC_PI_2 * rng.below(4) as f32 + 0.02 * rng.signed(),
+        _ => PI * rng.signed(),
+    };
+    let before = away(rng, at, out);
+    let turn = back(rng);
+    let after = away(rng, at, out + turn);
+    Corner {
+        points: [before, at, after],
+        half_width: half_width(rng),
+        limit: limit(rng),
+    }
+}
+
+/// One that was found, a few steps of f32 off.
+fn about(rng: &mut Rng, mut corner: Corner) -> Corner {
+    let mut step = |x: f32| match rng.below(3) {
+        0 if x != 0.0 => ulps(x, rng.within(-3, 3)),
+        1 if x != 0.0 => ulps(x, rng.within(-200, 200)),
+        _ => x,
+    };
+    for p in &mut corner.points {
+        *p = point(step(p.x), step(p.y));
+    }
+    corner
+}
+
+/// A few steps inside the limit, inside by no more than a half width, or none.
+fn coordinate(rng: &mut Rng) -> f32 {
+    let size = match rng.below(4) {
+        0 => FURTHEST,
+        1 => ulps(FURTHEST, -rng.within(0, 32)),
+        2 => FURTHEST - rng.unit() * 8192.0,
+        _ => 0.0,
+    };
+    rng.pick(&[size, -size])
+}
+
+/// A point behind `at`, seen in the direction `out`: far off, or a few steps of f32.
+fn away(rng: &mut Rng, at: Point, out: f32) -> Point {
+    if rng.one_in(4) {
+        let beside = |rng: &mut Rng, x: f32| x + rng.within(-6, 6) as f32 / 512.0;
+        return point(beside(rng, at.x), beside(rng, at.y));
+    }
+    let length = match rng.below(3) {
+        0 => rng.scale(-7, 15),
+        1 => 65_536.0 * rng.unit(),
+        _ => FURTHEST,
+    };
+    point(at.x - length * out.cos(), at.y - length * out.sin())
+}
+
+/// How far the path misses turning back on itself: about the threshold of the normal, 0.01, or by
+/// any angle, or not at all.
+fn back(rng: &mut Rng) -> f32 {
+    let size = match rng.below(5) {
+        0 => 0.01 * (1.0 + 0.001 * rng.signed()),
+        1 => 0.01 * (1.0 + 0.1 * rng.signed()),
+        2 => rng.scale(-14, 1),
+        3 => PI * rng.signed(),
+        _ => 0.0,
+    };
+    rng.pick(&[size, -size])
+}
+
+fn half_width(rng: &mut Rng) -> f32 {
+    match rng.below(8) {
+        0 => rng.scale(-9, 12),
+        _ => WIDTHS.1 * 0.5,
+    }
+}
+
+fn limit(rng: &mut Rng) -> f32 {
+    match rng.below(4) {
+        0 => rng.scale(0, 9),
+        _ => LIMITS.1,
+    }
+}
