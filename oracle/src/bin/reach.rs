@@ -1,13 +1,15 @@
-//! `reach SEED COUNT`: W-214's search, at the limits' corners. Each of that many corners of accepted
-//! paths is worked with each join, and the greatest x or y that rule 8 writes of it is kept, with
-//! the corner that gave it. Ends with 1 where Miter or Bevel reach beyond what is proved.
+//! `reach SEED COUNT`: W-214's search, at the limits' corners. Each of that many corners, an open
+//! run of three points with square caps, is worked with each join, and the greatest x or y that
+//! rule 8 writes is kept, with the corner that gave it. Ends with 1 where Miter or Bevel reach
+//! beyond what is proved.
 
-use oracle::endpoint::{Endpoint, EndpointId, LineJoin};
+use oracle::endpoint::LineJoin;
 use oracle::gen::{ulps, Rng};
-use oracle::join::work;
-use oracle::mesh::{LIMITS, MERGES, WIDTHS};
-use oracle::path::are_near;
+use oracle::mesh::{Stroke, LIMITS, MERGES, WIDTHS};
+use oracle::path::{are_near, Run};
 use oracle::plane::{point, Point};
+use oracle::routines::Reading;
+use oracle::strip::joints;
 use oracle::vertices::{write_joint, Mesh};
 use std::env;
 use std::f32::consts::{FRAC_PI_2, PI};
@@ -17,6 +19,8 @@ use std::process::ExitCode;
 const FURTHEST: f32 = 32_768.0;
 /// What crates/reach proves of all joins but MiterClip.
 const PROVED: f32 = 1_892_352.0;
+/// The least merge range, squared.
+const NEAR: f32 = MERGES.0 * MERGES.0;
 const JOINS: [LineJoin; 3] = [LineJoin::Miter, LineJoin::Bevel, LineJoin::MiterClip];
 
 /// A point with the one before it and the one behind it.
@@ -92,30 +96,34 @@ impl Corner {
     /// The points are inside the limits, and rule 1 keeps them at the least merge range.
     fn accepted(&self) -> bool {
         let inside = |p: &Point| p.x.abs() <= FURTHEST && p.y.abs() <= FURTHEST;
-        let near = MERGES.0 * MERGES.0;
         self.points.iter().all(inside)
-            && self.points.windows(2).all(|w| !are_near(near, w[0], w[1]))
+            && self.points.windows(2).all(|w| !are_near(NEAR, w[0], w[1]))
     }
 
-    /// The greatest x or y, and the greatest normal, that are written of the join.
+    /// The greatest x or y, and the greatest normal, that are written of it with square caps.
     fn found(&self, join: LineJoin, mesh: &mut Mesh) -> Found {
-        let mut advancement = 0.0;
-        let mut last = self.points[0];
-        let ends = self.points.map(|position| {
-            advancement += (position - last).length();
-            last = position;
-            Endpoint {
-                number: EndpointId(0),
-                position,
-                half_width: self.half_width,
-                advancement,
-                line_join: join,
-                ..Endpoint::zero()
-            }
-        });
+        let run = Run {
+            kept: vec![
+                (0, self.points[0]),
+                (1, self.points[1]),
+                (2, self.points[2]),
+            ],
+            closed: false,
+            has_line: true,
+        };
+        let stroke = Stroke {
+            half_width: self.half_width,
+            limit: self.limit,
+            join,
+            square: true,
+            clip: self.half_width,
+            near: NEAR,
+        };
         mesh.vertices.clear();
         mesh.sources.clear();
-        write_joint(&work(&ends[0], &ends[1], &ends[2], self.limit), mesh);
+        for joint in joints::<Reading>(&run, &stroke) {
+            write_joint(&joint, mesh);
+        }
         let most = |from: usize| {
             let sizes = mesh
                 .vertices
