@@ -108,7 +108,14 @@ enum stipeharbor_number {
  * - The source names the path's point, twice its number, and one more on the right-hand side: what a tap on the stripe is to be told by.
  * - The miter limit counts half widths: a tip that lies farther from its point than limit * width / 2 is beyond it. It is SVG's stroke-miterlimit.
  * - Triangles turn clockwise where y points up, and so the other way on most screens. Where the path folds, as in a bend sharper than the stripe is wide, some are turned over or lie over others: draw both faces.
- * - Four vertices and four triangles to a begin or a line are always enough, 20 floats, 4 sources and 12 numbers, and with that room the path is passed once. Or ask for the counts first, with lengths of 0. */
+ * - Four vertices and four triangles to a begin or a line are always enough, 20 floats, 4 sources and 12 numbers, and with that room the path is passed once. Or ask stipeharbor_measure first. */
+
+/* How far a mesh reaches. With STIPEHARBOR_MITER or STIPEHARBOR_BEVEL, either cap and any path that is accepted, every x and y that stipeharbor_tessellate writes is
+ * finite and at most 4194304 in size, so that as a whole number it fits a signed 24-bit unit (-8388608 to 8388607). In fact none is beyond 1892352, and four times
+ * such a number still fits. Why: a path that turns back so far that its normal would be longer than some 200 has none there; with every rounding counted a normal is at
+ * most 227, and a place is a coordinate, at most 32768, and a normal times half the width, at most 8192. The miter limit plays no part. This is proved
+ * (docs/PROVED.md), and so is: every advancement, with any join, is finite and does not fall along a run.
+ * Not so with STIPEHARBOR_MITER_CLIP: cut off at a limit of 1024 a stripe of width 16384 reaches x = 8421376, and more. There a caller tests x and y. */
 
 /* Strokes a path: a mesh at the start of `vertices` (five floats each: x, y, the normal's x and y, the advancement), of `sources` (one number to a vertex: where it
  * came from, below) and of `triangles` (three vertex numbers each). Elements behind it keep what they have. Room is the list's length over 5 or over 3, rounded

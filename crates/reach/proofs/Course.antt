@@ -101,18 +101,30 @@ one-leg {a} {k} A l s v h K =
     few i = omega arith
 
 -- ---- vertices whose advancements do not fall, from m units on
+pub record From (m : ℕ) (a : Float) : Type 0 where
+  pub units : ℕ
+  pub value : HasValue a false units one
+  pub rises : m ≤ units
+  pub most : units ≤ 2 ^ 33 * one
+
+abbrev from-less : {m n : ℕ} {a : Float} → m ≤ n → From n a → From m a
+from-less l f = record { units = f .units; value = f .value; rises = le-trans l (f .rises); most = f .most }
+
 abbrev pub Rising : ℕ → List Vertex → Type 0
 Rising m [] = Unit {0}
-Rising m (v ∷ vs) = (n : ℕ) × HasValue (v .advancement) false n one × (m ≤ n) × (n ≤ 2 ^ 33 * one) × Rising n vs
+Rising m (v ∷ vs) = (f : From m (v .advancement)) × Rising (f .units) vs
 
-rising-from : (m n : ℕ) (vs : List Vertex) → m ≤ n → Rising n vs → Rising m vs
-rising-from m n [] l r = tt
-rising-from m n (v ∷ vs) l r = (r .0, r .1, le-trans l (r .2), r .3, r .4)
+rising-less : (m n : ℕ) (vs : List Vertex) → m ≤ n → Rising n vs → Rising m vs
+rising-less m n [] l r = tt
+rising-less m n (v ∷ vs) l r = (from-less l (r .0), r .1)
 
 -- some at one advancement, others behind them
-level : (a : Float) (m n : ℕ) (vs ws : List Vertex) → All (λ (v : Vertex). v .advancement ≡ a) vs → HasValue a false n one → m ≤ n → n ≤ 2 ^ 33 * one → Rising n ws → Rising m (vs ++ ws)
-level a m n [] ws e h l k r = rising-from m n ws l r
-level a m n (v ∷ vs) ws e h l k r = (n, subst (λ (x : Float). HasValue x false n one) (sym (e .0)) h, l, k, level a n n vs ws (e .1) h (omega arith) k r)
+level : (a : Float) (m : ℕ) (vs ws : List Vertex) → All (λ (v : Vertex). v .advancement ≡ a) vs → (f : From m a) → Rising (f .units) ws → Rising m (vs ++ ws)
+level a m [] ws e f r = rising-less m (f .units) ws (f .rises) r
+level a m (v ∷ vs) ws e f r = (
+  record { units = f .units; value = subst (λ (x : Float). HasValue x false (f .units) one) (sym (e .0)) (f .value); rises = f .rises; most = f .most },
+  level a (f .units) vs ws (e .1) (record { units = f .units; value = f .value; rises = omega arith; most = f .most }) r,
+)
 
 joint-level : (j : EndpointData) → All (λ (v : Vertex). v .advancement ≡ j .advancement) (jointVerticesOf j)
 unfolding jointVerticesOf
@@ -131,23 +143,27 @@ module _ (o : Stroke) (S : Wide o) (L : Limit (o .near)) where
   Unclipped = isClip (o .«line_join») ≡ false
 
   -- a joint at m units or more, and those behind it
+  record Stands (m : ℕ) (j : EndpointData) : Type 0 where
+    pub at : From m (j .advancement)
+    pub held : Unclipped → All Held (jointVerticesOf j)
+
   abbrev Course : ℕ → List EndpointData → Type 0
   Course m [] = Unit {0}
-  Course m (j ∷ js) = (n : ℕ) × HasValue (j .advancement) false n one × (m ≤ n) × (n ≤ 2 ^ 33 * one) × (Unclipped → All Held (jointVerticesOf j)) × Course n js
+  Course m (j ∷ js) = (s : Stands m j) × Course (s .at .units) js
 
-  course-from : (m n : ℕ) (js : List EndpointData) → m ≤ n → Course n js → Course m js
-  course-from m n [] l c = tt
-  course-from m n (j ∷ js) l c = (c .0, c .1, le-trans l (c .2), c .3, c .4, c .5)
+  course-less : (m n : ℕ) (js : List EndpointData) → m ≤ n → Course n js → Course m js
+  course-less m n [] l c = tt
+  course-less m n (j ∷ js) l c = (record { at = from-less l (c .0 .at); held = c .0 .held }, c .1)
 
   course-held : (m : ℕ) (js : List EndpointData) → Course m js → Unclipped → All Held (verticesOf js)
   unfolding verticesOf
   course-held m [] c u = tt
-  course-held m (j ∷ js) c u = all-append Held (jointVerticesOf j) (verticesOf js) (c .4 u) (course-held (c .0) js (c .5) u)
+  course-held m (j ∷ js) c u = all-append Held (jointVerticesOf j) (verticesOf js) (c .0 .held u) (course-held (c .0 .at .units) js (c .1) u)
 
   course-rising : (m : ℕ) (js : List EndpointData) → Course m js → Rising m (verticesOf js)
   unfolding verticesOf
   course-rising m [] c = tt
-  course-rising m (j ∷ js) c = level (j .advancement) m (c .0) (jointVerticesOf j) (verticesOf js) (joint-level j) (c .1) (c .2) (c .3) (course-rising (c .0) js (c .5))
+  course-rising m (j ∷ js) c = level (j .advancement) m (jointVerticesOf j) (verticesOf js) (joint-level j) (c .0 .at) (course-rising (c .0 .at .units) js (c .1))
 
   -- a leg, with the advancement where it ends, behind k others
   record Walked (leg : Leg) (k : ℕ) : Type 0 where
@@ -156,11 +172,11 @@ module _ (o : Stroke) (S : Wide o) (L : Limit (o .near)) where
     pub edge : Edged (S .half) (leg .from) (leg .to) from to (leg .edge)
     pub end : Reckoned (leg .end) k
 
-  finite : {a : Float} {k : ℕ} (A : Reckoned a k) → k ≤ 65536 → A .size ≤ 2 ^ 33 * one
-  finite {a} {k} A K = at (A .size) (A .most)
-    where
-      at : (m : ℕ) → m ≤ k * (131072 * one) → m ≤ 2 ^ 33 * one
-      at m i = omega (arith, mul-le-mul-right (131072 * one) K)
+  finite : (k m : ℕ) → k ≤ 65536 → m ≤ k * (131072 * one) → m ≤ 2 ^ 33 * one
+  finite k m K i = omega (arith, mul-le-mul-right (131072 * one) K)
+
+  abbrev here : {a : Float} {k : ℕ} (A : Reckoned a k) → k ≤ 65536 → From (A .size) a
+  here {a} {k} A K = record { units = A .size; value = A .value; rises = omega arith; most = finite k (A .size) K (A .most) }
 
   record Goes {a : Float} {k : ℕ} (A : Reckoned a k) (p q : Endpoint) (P : Inside p) (Q : Inside q) (leg : Leg) : Type 0 where
     pub edge : Edged (S .half) p q P Q (leg .edge)
@@ -174,19 +190,21 @@ module _ (o : Stroke) (S : Wide o) (L : Limit (o .near)) where
       let R = one-leg A _ (E .size) (E .length) (E .short) K in
       record { edge = E; walked = record { from = P; to = Q; edge = E; end = R .next }; rises = R .rises }
 
+  -- a join stands where its leg ends
+  joint-at : {m : ℕ} (leg next : Leg) → From m (leg .end) → From m (jointOf o leg next .advancement)
+  unfolding jointOf sidePositionsOf unworkedOf dataOf
+  joint-at leg next f = f
+
   from-leg : (closed : Bool) (leg : Leg) (k : ℕ) (ps : List Endpoint) (G : Walked leg k) → k + length ps ≤ 65536 → All Inside ps → Chain (o .near) (leg .to) ps → Course (G .end .size) (jointsFrom closed o leg ps)
-  unfolding jointsFrom
+  unfolding jointsFrom joint-at
   from-leg true leg k [] G K i c = tt
-  from-leg false leg k [] G K i c = (G .end .size, unfold endCapOf capOf dataOf in (G .end .value), omega arith, finite (G .end) (omega arith), λ u. end-held o S leg (G .from) (G .to) (G .edge), tt)
+  from-leg false leg k [] G K i c =
+      (record { at = unfold endCapOf capOf dataOf in (here (G .end) (omega arith)); held = λ u. end-held o S leg (G .from) (G .to) (G .edge) }, tt)
   from-leg closed leg k (p ∷ ps) G K i c =
       let N : Goes (G .end) (leg .to) p (G .to) (i .0) (nextLegOf h leg p) = unfold nextLegOf in goes (G .end) (leg .to) p (G .to) (i .0) (c .0) (omega arith) in
       let next = nextLegOf h leg p in (
-        G .end .size,
-        unfold jointOf sidePositionsOf unworkedOf dataOf in (G .end .value),
-        omega arith,
-        finite (G .end) (omega arith),
-        λ u. join-held o S leg (G .from) (G .to) (G .edge) next p (i .0) (N .edge) u,
-        course-from (G .end .size) (N .walked .end .size) (jointsFrom closed o next ps) (N .rises)
+        record { at = joint-at leg next (here (G .end) (omega arith)); held = λ u. join-held o S leg (G .from) (G .to) (G .edge) next p (i .0) (N .edge) u },
+        course-less (G .end .size) (N .walked .end .size) (jointsFrom closed o next ps) (N .rises)
             (from-leg closed next (k + 1) ps (N .walked) (omega arith) (i .1) (unfold nextLegOf legOf in (c .1))),
       )
 
@@ -200,19 +218,17 @@ module _ (o : Stroke) (S : Wide o) (L : Limit (o .near)) where
   joints-course closed [] K i c = tt
   joints-course closed (p0 ∷ []) K i c = tt
   joints-course true (p0 ∷ p1 ∷ ps) K i c =
+      let leg = firstLegOf h p0 p1 in
       let G = goes none-yet p0 p1 (i .0) (i .1 .0) (c .0) (lit≤ tt) in
       let n = length-append ps (p0 ∷ p1 ∷ []) in
-      course-from 0 (G .walked .end .size) (jointsFrom true o (firstLegOf h p0 p1) (ps ++ p0 ∷ p1 ∷ [])) (omega arith)
-      (from-leg true (firstLegOf h p0 p1) 1 (ps ++ p0 ∷ p1 ∷ []) (G .walked) (omega arith) (all-append Inside ps (p0 ∷ p1 ∷ []) (i .1 .1) (i .0, (i .1 .0, tt))) (unfold legOf in (again p1 ps p0 p1 (c .1) (c .0))))
+      course-less 0 (G .walked .end .size) (jointsFrom true o leg (ps ++ p0 ∷ p1 ∷ [])) (omega arith)
+      (from-leg true leg 1 (ps ++ p0 ∷ p1 ∷ []) (G .walked) (omega arith) (all-append Inside ps (p0 ∷ p1 ∷ []) (i .1 .1) (i .0, (i .1 .0, tt))) (unfold legOf in (again p1 ps p0 p1 (c .1) (c .0))))
   joints-course false (p0 ∷ p1 ∷ ps) K i c =
       let leg = firstLegOf h p0 p1 in
       let G = goes none-yet p0 p1 (i .0) (i .1 .0) (c .0) (lit≤ tt) in (
-        0,
-        unfold startCapOf capOf dataOf legOf in zero-is,
-        omega arith,
-        omega arith,
-        λ u. start-held o S leg (G .walked .from) (G .walked .to) (G .walked .edge),
-        course-from 0 (G .walked .end .size) (jointsFrom false o leg ps) (omega arith) (from-leg false leg 1 ps (G .walked) (omega arith) (i .1 .1) (unfold legOf in (subst (λ (qs : List Endpoint). Chain (o .near) p1 qs) (append-nil ps) (c .1)))),
+        record { at = record { units = 0; value = unfold startCapOf capOf dataOf legOf in zero-is; rises = omega arith; most = omega arith }; held = λ u. start-held o S leg (G .walked .from) (G .walked .to) (G .walked .edge) },
+        course-less 0 (G .walked .end .size) (jointsFrom false o leg ps) (omega arith)
+            (from-leg false leg 1 ps (G .walked) (omega arith) (i .1 .1) (unfold legOf in (subst (λ (qs : List Endpoint). Chain (o .near) p1 qs) (append-nil ps) (c .1)))),
       )
 
   -- ---- the empty cap: its directions are its normals
@@ -226,8 +242,12 @@ module _ (o : Stroke) (S : Wide o) (L : Limit (o .near)) where
       let m = bounded-neg unity in
       (corner p P _ _ _ unity unity, (corner p P _ _ _ unity m, (corner p P _ _ _ m m, (corner p P _ _ _ m (bounded-neg m), tt))))
 
+  cap-level : (p : Endpoint) → All (λ (v : Vertex). v .advancement ≡ f32 0) (capVerticesOf p h (f32 0))
+  unfolding capVerticesOf capPairOf capVertexOf vertexOf
+  cap-level p = (refl, (refl, (refl, (refl, tt))))
+
   cap-rising : (p : Endpoint) → Rising 0 (capVerticesOf p h (f32 0))
-  cap-rising p = subst (Rising 0) (append-nil (capVerticesOf p h (f32 0))) (level (f32 0) 0 0 (capVerticesOf p h (f32 0)) [] (unfold capVerticesOf capPairOf capVertexOf vertexOf in (refl, (refl, (refl, (refl, tt))))) zero-is (omega arith) (omega arith) tt)
+  cap-rising p = let vs = capVerticesOf p h (f32 0) in subst (Rising 0) (append-nil vs) (level (f32 0) 0 vs [] (cap-level p) (here none-yet (lit≤ tt)) tt)
 
   -- ---- what a run draws
   pub record Drawn (vs : List Vertex) : Type 0 where

@@ -19,7 +19,7 @@ use Rattle.join.specs.declared.edge.Edge.{Edge}
 use Rattle.join.specs.declared.edge.EdgeSide.{EdgeSide}
 use Rattle.kept.specs.Kept.{near}
 use Rattle.rounding.proofs.Scales.{one, grain, speck, grains-square}
-use Rattle.rounding.proofs.Results.{Bounded, made-bounded}
+use Rattle.rounding.proofs.Results.{Bounded, made-bounded, Within}
 use Rattle.units.proofs.Lengths.{Long}
 use Rattle.units.proofs.Vectors.{UnitVector, Sized, measured, normalized, unit, turned, short-x, short-y}
 use Rattle.far.specs.Short.{Inside}
@@ -82,19 +82,26 @@ unit-short {v} U =
       y = record { s = c .t; size = c .y; value = c .y-is; within = short-y (c .x) (c .y) one (U .unity) };
     }
 
+-- ---- an endpoint's coordinates
+abbrev pub x-in : {p : Endpoint} (P : Inside p) → Within 32768 (p .position .x)
+x-in {p} P = coordinate (p .position .x) (P .x)
+
+abbrev pub y-in : {p : Endpoint} (P : Inside p) → Within 32768 (p .position .y)
+y-in {p} P = coordinate (p .position .y) (P .y)
+
 -- ---- a point beside an endpoint, at most k half widths off in a component
 module _ {h : Float} (W : Width h) where
   pub record Lies (p : Endpoint) (P : Inside p) (z : Point) (k : ℕ) : Type 0 where
-    pub x : Beside W (p .position .x) (coordinate (p .position .x) (P .x)) (z .x) k
-    pub y : Beside W (p .position .y) (coordinate (p .position .y) (P .y)) (z .y) k
+    pub x : Beside W (p .position .x) (x-in P) (z .x) k
+    pub y : Beside W (p .position .y) (y-in P) (z .y) k
 
   -- the endpoint itself, with an offset
   pub moved-off : (p : Endpoint) (P : Inside p) (k m : ℕ) → k + 2 ≤ m → m ≤ 8388608 → (o : Point) → Offset W (o .x) k → Offset W (o .y) k → Lies p P (plusOf (p .position) o) m
   unfolding plusOf
-  moved-off p P k m M K o X Y =
-      let px = coordinate (p .position .x) (P .x) in
-      let py = coordinate (p .position .y) (P .y) in
-      record { x = stepped W (p .position .x) px 0 k m (omega arith) K (at-itself W (p .position .x) px) X; y = stepped W (p .position .y) py 0 k m (omega arith) K (at-itself W (p .position .y) py) Y }
+  moved-off p P k m M K o X Y = record {
+    x = stepped W (p .position .x) (x-in P) 0 k m (omega arith) K (at-itself W (p .position .x) (x-in P)) X;
+    y = stepped W (p .position .y) (y-in P) 0 k m (omega arith) K (at-itself W (p .position .y) (y-in P)) Y;
+  }
 
   -- ---- one side of an edge from a to b
   pub record Sided (a b : Endpoint) (A : Inside a) (B : Inside b) (side : EdgeSide) : Type 0 where

@@ -38,10 +38,9 @@ use Rattle.rounding.proofs.Results.{Bounded, bounded-neg}
 use Rattle.units.proofs.Vectors.{UnitVector, reversed}
 use Rattle.units.proofs.Normals.{bounded}
 use Rattle.far.specs.Short.{Inside}
-use Rattle.far.proofs.Ranges.{coordinate}
 use Rattle.reach.proofs.Widths.{Width, Part, itself, Wide}
 use Rattle.reach.proofs.Beside.{bounded-times, offset, further, stepped, normal, place}
-use Rattle.reach.proofs.Edges.{Short, unit-short, Lies, moved-off, Sided, Edged}
+use Rattle.reach.proofs.Edges.{Short, unit-short, x-in, y-in, Lies, moved-off, Sided, Edged}
 
 -- ---- a vertex in reach
 pub record Held (v : Vertex) : Type 0 where
@@ -82,8 +81,8 @@ module _ {h : Float} (W : Width h) where
 
     farther : (z : Point) → Lies W p P z 5 → Lies W p P z 226
     farther z L = record {
-      x = further W (p .position .x) (coordinate (p .position .x) (P .x)) 5 226 (lit≤ tt) (L .x);
-      y = further W (p .position .y) (coordinate (p .position .y) (P .y)) 5 226 (lit≤ tt) (L .y);
+      x = further W (p .position .x) (x-in P) 5 226 (lit≤ tt) (L .x);
+      y = further W (p .position .y) (y-in P) 5 226 (lit≤ tt) (L .y);
     }
 
     tip : (n : Point) → Pointed n → SideLies (singleOf (plusOf (p .position) (timesOf n h)))
@@ -98,8 +97,8 @@ module _ {h : Float} (W : Width h) where
     capped : (z q : Point) (clip : Float) → Lies W p P z 5 → Short q → Part W clip → SideLies (singleOf (plusOf z (timesOf q clip)))
     unfolding singleOf plusOf timesOf
     capped z q clip L S C = record {
-      x = stepped W (p .position .x) (coordinate (p .position .x) (P .x)) 5 3 226 (lit≤ tt) (lit≤ tt) (L .x) (offset W 2 (lit≤ tt) (S .x) C);
-      y = stepped W (p .position .y) (coordinate (p .position .y) (P .y)) 5 3 226 (lit≤ tt) (lit≤ tt) (L .y) (offset W 2 (lit≤ tt) (S .y) C);
+      x = stepped W (p .position .x) (x-in P) 5 3 226 (lit≤ tt) (lit≤ tt) (L .x) (offset W 2 (lit≤ tt) (S .x) C);
+      y = stepped W (p .position .y) (y-in P) 5 3 226 (lit≤ tt) (lit≤ tt) (L .y) (offset W 2 (lit≤ tt) (S .y) C);
     }
 
     -- a join's, by its kind
@@ -127,8 +126,8 @@ module _ {h : Float} (W : Width h) where
     pub vertex-held : (n : Point) (a : Float) (source : ℕ) → Bounded (n .x) 227 → Bounded (n .y) 227 → Held (vertexOf (plusOf (p .position) (timesOf n h)) n a source)
     unfolding vertexOf plusOf timesOf
     vertex-held n a source X Y = record {
-      x = place W (p .position .x) (coordinate (p .position .x) (P .x)) 227 (lit< tt) X;
-      y = place W (p .position .y) (coordinate (p .position .y) (P .y)) 227 (lit< tt) Y;
+      x = place W (p .position .x) (x-in P) 227 (lit< tt) X;
+      y = place W (p .position .y) (y-in P) 227 (lit< tt) Y;
       normalX = X;
       normalY = Y;
     }
@@ -139,7 +138,7 @@ module _ {h : Float} (W : Width h) where
       base-held side x y L =
           rw (at, wide)
           (vertex-held (dividedOf (minusOf (point x y) (p .position)) h) (j .advancement) _
-          (normal W (p .position .x) (coordinate (p .position .x) (P .x)) 226 (lit≤ tt) (L .x)) (normal W (p .position .y) (coordinate (p .position .y) (P .y)) 226 (lit≤ tt) (L .y)))
+          (normal W (p .position .x) (x-in P) 226 (lit≤ tt) (L .x)) (normal W (p .position .y) (y-in P) 226 (lit≤ tt) (L .y)))
 
       side-held : (side : Side) (s : SidePoints) → SideLies s → All Held (sideVerticesOf j side s)
       unfolding sideVerticesOf

@@ -12,6 +12,7 @@ use lib.Ieee.{Float}
 use lib.ListN.{length}
 use Rattle.refusals.specs.Numbers.{numberOf, accepted}
 use Rattle.plane.specs.Normal.{pick}
+use Rattle.plane.specs.declared.vector.Point.{Point}
 use Rattle.endpoint.specs.declared.Endpoint.{Endpoint}
 use Rattle.endpoint.specs.declared.LineJoin.the-variants.{Miter, MiterClip, Bevel}
 use Rattle.join.specs.Side.{isClip}
@@ -28,11 +29,13 @@ use Rattle.pieces.specs.Piece.{Vertex, Lists}
 use Rattle.run.specs.Run.{shapeVertices}
 use Rattle.runs.specs.Runs.{runsOf, drawnOf, meshVertices}
 use Rattle.mesh.specs.Mesh.{outcomeOf}
+use Rattle.rounding.proofs.Scales.{one}
 use Rattle.units.proofs.Normals.{past-threshold}
+use Rattle.units.proofs.Vectors.{UnitVector}
 use Rattle.far.proofs.Path.{RunIn, path-in}
 use Rattle.far.proofs.Ranges.{accepted as accepted-options, near-limit}
 use Rattle.reach.specs.Reach.{AtMost, floatAt, Reached, leftOut, Asked, Proved, NoneFalls, Advances}
-use Rattle.reach.specs.Threshold.{PastThreshold}
+use Rattle.reach.specs.Threshold.{OneLong, PastThreshold}
 use Rattle.reach.proofs.Widths.{wide}
 use Rattle.reach.proofs.Joints.{Held}
 use Rattle.reach.proofs.Course.{Drawn, run-drawn}
@@ -43,9 +46,16 @@ looser : {z : Float} {j k : ℕ} → AtMost j z → j ≤ k → AtMost k z
 looser a l = record { down = a .down; units = a .units; value = a .value; most = le-trans (a .most) (mul-le-mul-right (2 ^ 149) l) }
 
 -- ---- why: past the threshold
+unit-vector : {v : Point} → OneLong v → UnitVector v
+unfolding one
+unit-vector u = record {
+  at = record { s = u .x-down; x = u .x; x-is = u .x-is; t = u .y-down; y = u .y; y-is = u .y-is };
+  unity = record { high = u .most; low = u .least };
+}
+
 pub normal-bounded : PastThreshold
 normal-bounded v1 v2 U1 U2 e =
-    let R = past-threshold v1 v2 U1 U2 e in
+    let R = past-threshold v1 v2 (unit-vector U1) (unit-vector U2) e in
     let c = R .at in
     (at-most (record { s = c .s; size = c .x; value = c .x-is; within = R .x-in }), at-most (record { s = c .t; size = c .y; value = c .y-is; within = R .y-in }))
 

@@ -60,14 +60,17 @@ all-at P (x ∷ xs) d (suc i) a h = all-at P xs d i (a .1) (omega arith)
 
 rising-finite : (m : ℕ) (vs : List Vertex) → Rising m vs → All (λ (v : Vertex). AtMost (2 ^ 33) (v .advancement)) vs
 rising-finite m [] r = tt
-rising-finite m (v ∷ vs) r = (at-most (record { s = false; size = r .0; value = r .1; within = r .3 }), rising-finite (r .0) vs (r .4))
+rising-finite m (v ∷ vs) r = let f = r .0 in (at-most (record { s = false; size = f .units; value = f .value; within = f .most }), rising-finite (f .units) vs (r .1))
 
 rising-at : (m : ℕ) (vs : List Vertex) (i : ℕ) → Rising m vs → suc i < length vs → NoFall (getD vs i blank .advancement) (getD vs (suc i) blank .advancement)
 unfolding one
 rising-at m [] i r h = absurd (omega arith)
 rising-at m (v ∷ []) i r h = absurd (omega arith)
-rising-at m (v ∷ w ∷ vs) zero r h = record { first = r .0; second = r .4 .0; first-is = r .1; second-is = r .4 .1; rises = r .4 .2 }
-rising-at m (v ∷ w ∷ vs) (suc i) r h = rising-at (r .0) (w ∷ vs) i (r .4) (omega arith)
+rising-at m (v ∷ w ∷ vs) zero r h =
+    let f = r .0 in
+    let g = r .1 .0 in
+    record { first = f .units; second = g .units; first-is = f .value; second-is = g .value; rises = g .rises }
+rising-at m (v ∷ w ∷ vs) (suc i) r h = rising-at (r .0 .units) (w ∷ vs) i (r .1) (omega arith)
 
 -- ---- all runs
 module _ (o : Stroke) where

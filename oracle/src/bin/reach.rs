@@ -19,6 +19,8 @@ use std::process::ExitCode;
 const FURTHEST: f32 = 32_768.0;
 /// What crates/reach proves of all joins but MiterClip.
 const PROVED: f32 = 1_892_352.0;
+/// How many corners are tried before the search begins anew: one that climbs stays on its hill.
+const CLIMB: u64 = 250_000;
 /// The least merge range, squared.
 const NEAR: f32 = MERGES.0 * MERGES.0;
 const JOINS: [LineJoin; 3] = [LineJoin::Miter, LineJoin::Bevel, LineJoin::MiterClip];
@@ -54,27 +56,17 @@ fn main() -> ExitCode {
 
 fn search(seed: u64, count: u64) -> ExitCode {
     let mut rng = Rng::new(seed);
-    let mut greatest: [Option<Found>; 3] = [None; 3];
+    let mut greatest = [None; 3];
     let mut mesh = Mesh::default();
-    let mut worked = 0;
-    while worked < count {
-        let best = greatest[rng.below(3)];
-        let corner = match best {
-            Some(found) if rng.one_in(4) => about(&mut rng, found.corner),
-            _ => any(&mut rng),
-        };
-        if !corner.accepted() {
-            continue;
-        }
-        worked += 1;
-        for (join, greatest) in JOINS.into_iter().zip(&mut greatest) {
-            let found = corner.found(join, &mut mesh);
-            if greatest.map_or(true, |g| found.reach > g.reach) {
-                *greatest = Some(found);
-            }
+    let mut left = count;
+    while left > 0 {
+        let some = left.min(CLIMB);
+        left -= some;
+        for (greatest, found) in greatest.iter_mut().zip(climb(&mut rng, some, &mut mesh)) {
+            *greatest = greater(*greatest, found);
         }
     }
-    println!("{} corners, each with three joins", worked);
+    println!("{} corners, each with three joins", count);
     for (join, found) in JOINS.into_iter().zip(greatest) {
         if let Some(f) = found {
             println!(
@@ -90,6 +82,34 @@ fn search(seed: u64, count: u64) -> ExitCode {
     }
     let beyond = |found: &Option<Found>| found.map_or(false, |f| f.reach > PROVED);
     ExitCode::from(u8::from(greatest[..2].iter().any(beyond)))
+}
+
+fn greater(a: Option<Found>, b: Option<Found>) -> Option<Found> {
+    match (a, b) {
+        (Some(a), Some(b)) if b.reach <= a.reach => Some(a),
+        (a, None) => a,
+        (_, b) => b,
+    }
+}
+
+/// The greatest of so many corners, of which one in four is near the greatest so far.
+fn climb(rng: &mut Rng, count: u64, mesh: &mut Mesh) -> [Option<Found>; 3] {
+    let mut greatest: [Option<Found>; 3] = [None; 3];
+    let mut worked = 0;
+    while worked < count {
+        let corner = match greatest[rng.below(3)] {
+            Some(found) if rng.one_in(4) => about(rng, found.corner),
+            _ => any(rng),
+        };
+        if !corner.accepted() {
+            continue;
+        }
+        worked += 1;
+        for (join, greatest) in JOINS.into_iter().zip(&mut greatest) {
+            *greatest = greater(*greatest, Some(corner.found(join, mesh)));
+        }
+    }
+    greatest
 }
 
 impl Corner {
