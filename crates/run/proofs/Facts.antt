@@ -23,7 +23,8 @@ use Rattle.strip.proofs.Joints.{joint-few}
 use Rattle.strip.proofs.Facts.Counts.{vertices-are, open-count, closed-count}
 use Rattle.strip.proofs.Facts.Owns.{open-own, closed-own}
 use Rattle.strip.proofs.Facts.Named.{open-named, closed-named}
-use Rattle.strip.proofs.Facts.Shares.{in-a, in-b, in-c, in-none, open-linked, closed-linked}
+use Rattle.strip.proofs.Facts.Shares.{open-linked, closed-linked}
+use Rattle.triangles.proofs.Having.{in-a, in-b, in-c, in-none}
 use Rattle.run.specs.Facts.{Numbers, Alone, RunCounts, Covers}
 use Rattle.run.specs.Run.{nothing, emptyCap, drawsCap, shapeOfKept, shapeOf, shapeCount, shapeTriangles}
 

@@ -18,7 +18,7 @@ use Rattle.strip.specs.Triangle.{trianglesOf}
 use Rattle.strip.proofs.Joints.{count-more}
 use Rattle.strip.proofs.Facts.Ladder.{Move, to, toP, toN, ladder, beforeN, inP, inN, inner}
 use Rattle.strip.proofs.Facts.Moves.{movesOf, home, open-moves, closed-moves}
-use Rattle.strip.proofs.Facts.Shares.{in-a, in-b, in-c}
+use Rattle.triangles.proofs.Having.{in-a, in-b, in-c}
 
 -- some move goes to x
 data Goes (x : ℕ) : List Move → Type 0 where

@@ -1,45 +1,16 @@
--- Demand 3: every triangle of a run but the first shares exactly two vertices with the one before. The plan: which vertices a triangle has (`in-a` to `in-none`);
--- a triangle and the one that a fresh move makes behind it (`shares`); so on for all moves. Assumes nothing.
+-- Demand 3: every triangle of a run but the first shares exactly two vertices with the one before. The plan: a triangle and the one that a fresh move makes behind it (`shares`); so on for all moves. Assumes nothing.
 use Prim.Native.Nat.{ℕ, _+_}
-use mathlib.Core.Path.{_≡_, refl, sym}
+use mathlib.Core.Path.{_≡_}
 use mathlib.Core.Bool.{Bool, true, false, cond}
 use mathlib.Core.List.{List, [], _∷_, _++_}
-use mathlib.Core.Logic.{_≢_}
-use lib.Dec.{eqb}
-use borrow.Author.Tests.{eq-eqb, ne-eqb}
 use Rattle.endpoint.specs.declared.EndpointData.{EndpointData}
-use Rattle.triangles.specs.Facts.{inTri, shared, Chain, Linked}
+use Rattle.triangles.specs.Facts.{shared, Chain, Linked}
+use Rattle.triangles.proofs.Having.{in-a, in-b, in-c, in-none}
 use Rattle.strip.specs.Joint.{jointCount}
 use Rattle.strip.specs.Triangle.{trianglesOf}
 use Rattle.strip.proofs.Facts.Ladder.{Move, to, ladder, beforeN, inner}
 use Rattle.strip.proofs.Facts.Moves.{movesOf, home, open-moves, closed-moves}
 use Rattle.strip.proofs.Facts.Fresh.{New, Fresh, open-fresh, closed-fresh}
-
--- a triangle has its own three vertices, and no other
-pub in-a : (b c x : ℕ) → inTri (record { a = x; b = b; c = c }) x ≡ 1
-unfolding inTri
-in-a b c x = rw (eq-eqb x x refl)
-
-pub in-b : (a c x : ℕ) → inTri (record { a = a; b = x; c = c }) x ≡ 1
-unfolding inTri
-in-b a c x = rw (eq-eqb x x refl) (go (eqb a x))
-  where
-    go : (t : Bool) → cond {A = ℕ} t 1 1 ≡ 1
-    go true = refl
-    go false = refl
-
-pub in-c : (a b x : ℕ) → inTri (record { a = a; b = b; c = x }) x ≡ 1
-unfolding inTri
-in-c a b x = rw (eq-eqb x x refl) (go (eqb a x) (eqb b x))
-  where
-    go : (t u : Bool) → cond {A = ℕ} t 1 (cond u 1 1) ≡ 1
-    go true u = refl
-    go false true = refl
-    go false false = refl
-
-pub in-none : (a b c x : ℕ) → x ≢ a → x ≢ b → x ≢ c → inTri (record { a = a; b = b; c = c }) x ≡ 0
-unfolding inTri
-in-none a b c x f g h = rw (ne-eqb a x (λ z. f (sym z)), ne-eqb b x (λ z. g (sym z)), ne-eqb c x (λ z. h (sym z)))
 
 -- after a move to x the next triangle, which a fresh move to y makes, keeps x and the vertex that was not replaced
 shares : (s : Bool) (n p x y : ℕ) → New (cond s p n) (cond s n x) (cond s x p) y → shared (record { a = n; b = p; c = x }) (record { a = cond s n x; b = cond s x p; c = y }) ≡ 2
