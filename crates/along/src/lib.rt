@@ -103,7 +103,7 @@ fn pass_kept(
 }
 
 // Whether a point is dropped: it is near the last, and not sure to be kept.
-fn is_dropped(limit: f32, sure: bool, leg: Leg, p: Endpoint) -> bool
+pub fn is_dropped(limit: f32, sure: bool, leg: Leg, p: Endpoint) -> bool
     ensures { λ r. ⌜ r ≡ drops limit sure leg p ⌝ }
 {
     if sure {

@@ -34,7 +34,7 @@ ghost use Rattle.along.specs.Walk.{Walks};
 ghost use Rattle.along.specs.Strips.{Within, roundOf};
 
 // From p0 to the second kept point.
-fn first_leg(h: f32, p: &[f32], first: EndpointId, i: usize) -> Leg
+pub fn first_leg(h: f32, p: &[f32], first: EndpointId, i: usize) -> Leg
     requires { ⌜ Within (now p) (first .0) i ⌝ }
     ensures { λ r. ⌜ r ≡ firstLegOf h (endpointAt (now (p .entry)) (first .0) 0) (endpointAt (now (p .entry)) (first .0) i) ⌝ }
 {

@@ -26,7 +26,7 @@ ghost use Rattle.strip.specs.Strip.{StripFits, StepFits, startOf, steppe
 
 pub mod joint;
 pub mod section;
-mod triangle;
+pub mod triangle;
 
 // How far a run's strip has come: where the next vertex and the next triangle go, and its first and
 // its last section once it has begun.

@@ -45,7 +45,8 @@ fn put_side(v: &mut [f32], src: &mut [u32], e: EndpointData, side: Side, points:
     }
 }
 
-fn side_points(e: EndpointData, side: Side) -> SidePoints
+// The points of a side.
+pub fn side_points(e: EndpointData, side: Side) -> SidePoints
     ensures { λ r. ⌜ r ≡ sidePointsOf e side ⌝ }
 {
     match side {
