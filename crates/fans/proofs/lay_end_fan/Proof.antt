@@ -31,7 +31,13 @@ same-length-3 c = search needs
 
 returns : tie.Need-returns
 unfolding endFan
-returns c = rw (c .before .before .before .before .before .before .before .before .before .before .cap-end2 .ensures, c .before .before .before .before .before .before .before .before .before .before .before .cap-end .ensures, c .before .before .before .before .before .before .before .before .before .before .before .before .source-of .ensures, c .before .before .before .before .before .before .before .before .before .before .before .before .before .hub-of .ensures) at (c .before .before .before .before .before .before .lay-cap .ensures)
+returns c =
+    let at6 = c .before .before .before .before .before .before in
+    let at10 = at6 .before .before .before .before in
+    let at11 = at10 .before in
+    let at12 = at11 .before in
+    let at13 = at12 .before in
+    rw (at10 .cap-end2 .ensures, at11 .cap-end .ensures, at12 .source-of .ensures, at13 .hub-of .ensures) at (at6 .lay-cap .ensures)
 
 pub lay-end-fan-spec : {M : Type 1} → statement M
 lay-end-fan-spec =

@@ -26,7 +26,16 @@ hub-of-requires c κs = c .before .before .before .before .before .before .befor
 
 lay-arc-requires : tie.Need-lay-arc-requires
 unfolding sideWeft
-lay-arc-requires c κs = rw (c .before .before .before .hub-of .ensures, c .before .before .before .before .last-normal .ensures, c .before .before .before .before .before .vertex-after .ensures, c .before .before .before .before .before .before .first-normal .ensures, c .before .before .before .before .before .before .before .side-points .ensures) (rw (sym (c .before .before .before .before .before .before .before .before .before .gets-arc .ensures) ∙ c .before .before .before .before .before .before .before .before .if1 .taken) at (c .before .before .before .before .before .before .before .before .before .before .before .before .before .pre .1))
+lay-arc-requires c κs =
+    let at3 = c .before .before .before in
+    let at4 = at3 .before in
+    let at5 = at4 .before in
+    let at6 = at5 .before in
+    let at7 = at6 .before in
+    let at8 = at7 .before in
+    let at9 = at8 .before in
+    let at13 = at9 .before .before .before .before in
+    rw (at3 .hub-of .ensures, at4 .last-normal .ensures, at5 .vertex-after .ensures, at6 .first-normal .ensures, at7 .side-points .ensures) (rw (sym (at9 .gets-arc .ensures) ∙ at8 .if1 .taken) at (at13 .pre .1))
 
 same-length : tie.Need-same-length
 same-length c = search needs
@@ -39,7 +48,16 @@ same-length-3 c = search needs
 
 returns : tie.Need-returns
 unfolding sideWeft
-returns c = rw (sym (c .before .before .before .before .before .before .before .before .before .before .before .before .before .before .before .before .gets-arc .ensures) ∙ c .before .before .before .before .before .before .before .before .before .before .before .before .before .before .before .if1 .taken) (rw (c .before .before .before .before .before .before .before .before .before .before .hub-of .ensures, c .before .before .before .before .before .before .before .before .before .before .before .last-normal .ensures, c .before .before .before .before .before .before .before .before .before .before .before .before .vertex-after .ensures, c .before .before .before .before .before .before .before .before .before .before .before .before .before .first-normal .ensures, c .before .before .before .before .before .before .before .before .before .before .before .before .before .before .side-points .ensures) at (c .before .before .before .before .before .before .lay-arc .ensures))
+returns c =
+    let at6 = c .before .before .before .before .before .before in
+    let at10 = at6 .before .before .before .before in
+    let at11 = at10 .before in
+    let at12 = at11 .before in
+    let at13 = at12 .before in
+    let at14 = at13 .before in
+    let at15 = at14 .before in
+    let at16 = at15 .before in
+    rw (sym (at16 .gets-arc .ensures) ∙ at15 .if1 .taken) (rw (at10 .hub-of .ensures, at11 .last-normal .ensures, at12 .vertex-after .ensures, at13 .first-normal .ensures, at14 .side-points .ensures) at (at6 .lay-arc .ensures))
 
 returns-2 : tie.Need-returns-2
 unfolding sideWeft
