@@ -35,7 +35,14 @@ same-length-2 : tie.Need-same-length-2
 same-length-2 c = search needs
 
 returns-2 : tie.Need-returns-2
-returns-2 c = read-written _ _ _ _ _ (c .before .before .before .before .before .before .before .before .before .before .before .before .before .before .before .if1 .left) (ap (λ (w : Passed). w .passage) (c .before .before .before .before .before .before .before .before .before .before .before .before .through .ensures)) (c .before .before .before .before .before .before .before .before .before .judged .ensures) _ (sym (c .before .before .before .before .before .before .before .before .is-path .ensures) ∙ c .before .before .before .before .before .before .before .if2 .taken) (c .before .before .before .before .through2 .ensures)
+returns-2 c =
+    let at-through2 = c .before .before .before .before in
+    let at-if2 = at-through2 .before .before .before in
+    let at-is-path = at-if2 .before in
+    let at-judged = at-is-path .before in
+    let at-through = at-judged .before .before .before in
+    let at-if1 = at-through .before .before .before in
+    read-written _ _ _ _ _ (at-if1 .if1 .left) (ap (λ (w : Passed). w .passage) (at-through .through .ensures)) (at-judged .judged .ensures) _ (sym (at-is-path .is-path .ensures) ∙ at-if2 .if2 .taken) (at-through2 .through2 .ensures)
 
 returns-3 : tie.Need-returns-3
 returns-3 c = read-refused _ _ _ _ _ (c .before .before .before .before .before .before .before .before .if1 .left) (ap (λ (w : Passed). w .passage) (c .before .before .before .before .before .through .ensures)) (c .before .before .judged .ensures) (sym (c .before .is-path .ensures) ∙ c .if2 .left)

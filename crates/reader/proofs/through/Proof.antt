@@ -19,7 +19,11 @@ slice-aggregate-pass : tie.Need-slice-aggregate-pass
 slice-aggregate-pass c = search needs
 
 pass-requires-2 : tie.Need-pass-requires-2
-pass-requires-2 c κs = end-room _ _ (c .before .before .before .before .before .before .before .before .before .before .before .before .before .before .args .text .now) _ _ (c .before .before .before .before .before .before .before .before .before .before .set-out .ensures) (c .before .before .before .before .before .before .before .pass .ensures) (c .before .before .before .before .before .before .before .before .before .before .before .before .before .before .pre)
+pass-requires-2 c κs =
+    let at-pass = c .before .before .before .before .before .before .before in
+    let at-set-out = at-pass .before .before .before in
+    let start = at-set-out .before .before .before .before in
+    end-room _ _ (start .args .text .now) _ _ (at-set-out .set-out .ensures) (at-pass .pass .ensures) (start .pre)
 
 same-length : tie.Need-same-length
 same-length c = search needs
@@ -28,7 +32,11 @@ same-length-2 : tie.Need-same-length-2
 same-length-2 c = search needs
 
 returns : tie.Need-returns
-returns c = through-by _ _ _ _ _ _ (c .before .before .before .before .before .before .before .before .before .before .before .before .before .before .before .set-out .ensures) (c .before .before .before .before .before .before .before .before .before .before .before .before .pass .ensures) (c .before .before .before .before .pass2 .ensures)
+returns c =
+    let at-pass2 = c .before .before .before .before in
+    let at-pass = at-pass2 .before .before .before .before .before .before .before .before in
+    let at-set-out = at-pass .before .before .before in
+    through-by _ _ _ _ _ _ (at-set-out .set-out .ensures) (at-pass .pass .ensures) (at-pass2 .pass2 .ensures)
 
 pub through-spec : {M : Type 1} → statement M
 through-spec =

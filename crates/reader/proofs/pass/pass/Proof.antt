@@ -33,7 +33,13 @@ loop-less : tie.Need-loop-less Inv-loop μ-loop
 loop-less c = omega (arith, c .before .before .before .before .before .before .before .before .before .before .loop-test .taken)
 
 loop-again : tie.Need-loop-again Inv-loop μ-loop
-loop-again c = passes-turn _ _ _ _ _ _ _ _ (c .before .before .before .before .before .before .before .before .before .before .before .loop .inv) _ _ (c .before .before .before .before .before .before .before .before .before .before .loop-test .taken) (still-on _ _ (c .before .before .before .before .before .before .before .before .before .is-over .ensures) (c .before .before .before .before .before .before .before .before .if1 .taken)) (c .before .before .before .before .step .ensures)
+loop-again c =
+    let at-step = c .before .before .before .before in
+    let at-if1 = at-step .before .before .before .before in
+    let at-is-over = at-if1 .before in
+    let at-loop-test = at-is-over .before in
+    let at-loop = at-loop-test .before in
+    passes-turn _ _ _ _ _ _ _ _ (at-loop .loop .inv) _ _ (at-loop-test .loop-test .taken) (still-on _ _ (at-is-over .is-over .ensures) (at-if1 .if1 .taken)) (at-step .step .ensures)
 
 same-length : tie.Need-same-length Inv-loop μ-loop
 same-length c = c .before .before .before .loop .inv .same-verbs

@@ -27,7 +27,12 @@ same-length-4 : tie.Need-same-length-4
 same-length-4 c = search needs
 
 returns-2 : tie.Need-returns-2
-returns-2 c = rw (c .before .before .before .before .before .before .before .if1 .left) (c .before .before .before .before .put-next2 .ensures ∙ ap (λ (h : Sheet). eventPut h (c .before .before .before .before .before .before .before .before .before .before .before .before .before .before .before .before .before .args .called .letter)) (c .before .before .before .before .before .before .before .before .before .before .before .before .put-next .ensures))
+returns-2 c =
+    let at-put-next2 = c .before .before .before .before in
+    let at-if1 = at-put-next2 .before .before .before in
+    let at-put-next = at-if1 .before .before .before .before .before in
+    let start = at-put-next .before .before .before .before .before in
+    rw (at-if1 .if1 .left) (at-put-next2 .put-next2 .ensures ∙ ap (λ (h : Sheet). eventPut h (start .args .called .letter)) (at-put-next .put-next .ensures))
 
 pub put-called-spec : {M : Type 1} → statement M
 put-called-spec =
