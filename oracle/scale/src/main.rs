@@ -2,10 +2,11 @@
 //! the linked library and by the oracle, every lent list compared whole. `damaged` is the oracle's
 //! list of damaged STL files, whatever the seed, and ends by itself; `back` has meshes written and
 //! read back by the library; `big` has sizes that no line has: paths, texts and lists about the
-//! limits, and is left out where no call is named. Of the index lists one in 20,000 has up to
-//! 200,000 triangles. `radio` has texts in fragments; `divisions` has COUNT short texts, each divided
-//! into up to three fragments in every way. Prints how often each number was answered; ends with 1 at the first
-//! difference, printing its case line.
+//! limits. Of the index lists one in 20,000 has up to 200,000 triangles. `radio` has texts in
+//! fragments; `divisions` has COUNT short texts, each divided into up to three fragments in every
+//! way, and `limit` texts in fragments in which the text limit falls anywhere. The last three are
+//! left out where no call is named: `divisions`, `limit` and `big`. Prints how often each number was
+//! answered; ends with 1 at the first difference, printing its case line.
 
 mod call;
 mod list;
@@ -14,7 +15,7 @@ mod radio;
 use call::Lists;
 use oracle::case::{Case, ListCase};
 use oracle::gen::{any_list, big, case, damaged, sound, Kind, Rng};
-use radio::divisions;
+use radio::{at_limit, divisions};
 use std::iter::repeat_with;
 use std::process::ExitCode;
 use std::time::Instant;
@@ -26,10 +27,14 @@ enum Of {
     Back,
     List(fn(ListCase) -> Case),
     Divisions,
+    Limit,
     Big,
 }
 
-const KINDS: [(&str, Of); 17] = [
+/// Those that are left out where no call is named.
+const NAMED: usize = 3;
+
+const KINDS: [(&str, Of); 18] = [
     ("mesh", Of::Call(Kind::Mesh)),
     ("read", Of::Call(Kind::Read)),
     ("root", Of::Call(Kind::Root)),
@@ -46,6 +51,7 @@ const KINDS: [(&str, Of); 17] = [
     ("attached", Of::List(Case::Attached)),
     ("radio", Of::Call(Kind::Radio)),
     ("divisions", Of::Divisions),
+    ("limit", Of::Limit),
     ("big", Of::Big),
 ];
 
@@ -72,7 +78,7 @@ type Kinds = Vec<(&'static str, Of)>;
 
 fn arguments(words: &[String]) -> Option<(u64, usize, Kinds)> {
     let (seed, count, named) = match words {
-        [seed, count] => (seed, count, KINDS[..KINDS.len() - 1].to_vec()),
+        [seed, count] => (seed, count, KINDS[..KINDS.len() - NAMED].to_vec()),
         [seed, count, name] => {
             let kind = KINDS.iter().find(|kind| kind.0 == name)?;
             (seed, count, vec![*kind])
@@ -90,6 +96,7 @@ fn cases(seed: u64, count: usize, of: Of) -> Box<dyn Iterator<Item = Case>> {
         Of::Big => Box::new(repeat_with(move || big(&mut rng))),
         Of::Back => Box::new(repeat_with(move || Case::StlWrite(sound(&mut rng)))),
         Of::List(asked) => Box::new(repeat_with(move || asked(any_list(&mut rng)))),
+        Of::Limit => Box::new(repeat_with(move || at_limit(&mut rng))),
         Of::Divisions => return Box::new(divisions(rng, count)),
     };
     Box::new(each.take(count))

@@ -3,7 +3,7 @@
 use crate::call::{alike, held, Held, Lists};
 use oracle::case::{Call, Case, RadioCase, ReadCase};
 use oracle::gen::{case, Kind, Rng};
-use oracle::reader::close;
+use oracle::reader::{close, MAX_TEXT};
 use stipeharbor::{raw, RADIO_WORDS};
 
 /// A short text has at most so many bytes.
@@ -101,4 +101,27 @@ fn divided(case: ReadCase) -> Vec<Case> {
         })
     })
     .collect()
+}
+
+/// A text behind so many blanks that the text limit falls at one of its bytes, or at its end, cut there
+/// or nearby and at one byte before.
+pub fn at_limit(rng: &mut Rng) -> Case {
+    let case = loop {
+        match case(rng, Kind::Read) {
+            Case::Read(case) if case.text.len() < MAX_TEXT => break case,
+            _ => {}
+        }
+    };
+    let within = rng.below(case.text.len() + 1);
+    let mut text = vec![b' '; MAX_TEXT - within];
+    text.extend(&case.text);
+    let length = text.len();
+    let near = (MAX_TEXT + rng.below(4)).saturating_sub(2).min(length);
+    let first = rng.below(near + 1);
+    let parts = [&text[..first], &text[first..near], &text[near..]];
+    Case::Radio(RadioCase {
+        verb_len: case.verb_len + rng.below(8),
+        coordinate_len: case.coordinate_len + rng.below(12),
+        calls: parts.map(|part| Call::Take(part.to_vec())).to_vec(),
+    })
 }
