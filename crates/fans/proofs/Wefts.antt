@@ -1,11 +1,11 @@
 -- Laws of what is written behind what stands: what the first and the second of two need, and what they do together. Assumes nothing.
 use Prim.Native.Nat.{ℕ, _+_}
-use mathlib.Core.Path.{_≡_, sym, ap, subst}
+use mathlib.Core.Path.{_≡_, subst}
 use mathlib.Core.Bool.{Bool}
 use mathlib.Core.List.{append-assoc}
 use native.Mathlib.Omega.{arith}
 use lib.ListN.{length, length-append}
-use Rattle.pieces.specs.Piece.{nextVertex, Piece, Lists, behind, Fits, Passes}
+use Rattle.pieces.specs.Piece.{nextVertex, Piece, Lists, behind, Passes}
 use Rattle.pieces.specs.declared.Place.{Place}
 use Rattle.pieces.proofs.Pieces.{puts-both, fits-front, fits-back}
 use Rattle.fans.specs.Weft.{then, WeftFits, WeftPasses}
