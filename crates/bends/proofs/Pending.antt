@@ -1,22 +1,20 @@
 -- Joints one after another: what the first and the second pass need of both, and what they do together; then a pass that is part of the way. Assumes nothing.
 use Prim.Native.Nat.{ℕ, _+_, _<_}
-use mathlib.Core.Path.{_≡_, refl, sym, ap, subst, _∙_}
+use mathlib.Core.Path.{_≡_, refl, sym, _∙_}
 use mathlib.Core.Bool.{Bool, true, false, true≢false}
-use mathlib.Core.List.{List, [], _∷_, _++_, map, map-append, append-assoc, append-nil}
+use mathlib.Core.List.{List, [], _∷_, _++_, map-append, append-assoc, append-nil}
 use native.Mathlib.Omega.{arith}
 use lib.ListN.{length}
 use Rattle.endpoint.specs.Endpoint.{idLimit}
-use Rattle.endpoint.specs.declared.EndpointData.{EndpointData}
 use Rattle.lists.proofs.All.{all-front, all-back}
-use Rattle.pieces.specs.Piece.{Piece, Lists, nextVertex, Fits, Passes}
-use Rattle.pieces.specs.declared.Place.{Place}
+use Rattle.pieces.specs.Piece.{Piece, Lists, nextVertex}
 use Rattle.pieces.proofs.Pieces.{puts-none}
 use Rattle.options.specs.declared.Stroke.{Stroke}
 use Rattle.strip.specs.Strip.{stepOf, stepsOf, StripFits}
 use Rattle.strip.specs.declared.Strip.{Strip}
 use Rattle.strip.proofs.Pending as strips
 use Rattle.strip.proofs.Steps.{steps-append}
-use Rattle.fans.specs.Weft.{nothing, then, WeftFits, WeftPasses}
+use Rattle.fans.specs.Weft.{nothing, then, WeftFits}
 use Rattle.fans.specs.declared.Round.{Round}
 use Rattle.fans.proofs.Wefts.{then-assoc, weft-front, weft-back, weft-both}
 use Rattle.bends.specs.Bend.{bendWeft}

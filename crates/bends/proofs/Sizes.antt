@@ -1,6 +1,6 @@
 -- A joint brings as many vertices as its arcs have, and as many triangles more than the strip's own. Assumes nothing.
 use Prim.Native.Nat.{ℕ, suc, _+_, _-_, _^_, _≤_}
-use mathlib.Core.Path.{_≡_, refl, sym}
+use mathlib.Core.Path.{_≡_, sym}
 use mathlib.Core.Bool.{Bool, true, false, cond, _&&_}
 use mathlib.Core.List.{[], _++_}
 use native.Mathlib.Omega.{arith}
@@ -12,7 +12,7 @@ use Rattle.plane.specs.Vector.{negatedOf}
 use Rattle.options.specs.declared.Stroke.{Stroke}
 use Rattle.joints.specs.Joint.{startCapOf}
 use Rattle.strip.specs.Section.{beforeOf, afterOf}
-use Rattle.strip.specs.Strip.{nextOf, lastOf, stepTriangles, stepOf}
+use Rattle.strip.specs.Strip.{nextOf, stepTriangles, stepOf}
 use Rattle.strip.specs.Triangle.{between}
 use Rattle.strip.specs.declared.Strip.{Strip}
 use Rattle.strip.specs.declared.section.Section.{Section}

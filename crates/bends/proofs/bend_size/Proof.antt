@@ -23,16 +23,47 @@ fan-size-requires : tie.Need-fan-size-requires
 fan-size-requires c κs = c .before .before .before .before .pre
 
 add-result : tie.Need-add-result
-add-result c = let s = c .before .before .before .before .before in let k = s .args .r .detail in let x = arc-few (c .before .before .before .before .gets-arc .result) k (s .pre) in let y = arc-few (c .before .before .gets-arc2 .result) k (s .pre) in let z = fan-few (s .args .due) k (s .pre) in omega (arith, c .before .before .before .arc-size .ensures, c .before .arc-size2 .ensures, c .fan-size .ensures)
+add-result c =
+    let at3 = c .before .before .before in
+    let at4 = at3 .before in
+    let at5 = at4 .before in
+    let s = at5 in
+    let k = s .args .r .detail in
+    let x = arc-few (at4 .gets-arc .result) k (s .pre) in
+    let y = arc-few (c .before .before .gets-arc2 .result) k (s .pre) in
+    let z = fan-few (s .args .due) k (s .pre) in
+    omega (arith, at3 .arc-size .ensures, c .before .arc-size2 .ensures, c .fan-size .ensures)
 
 add-result-2 : tie.Need-add-result-2
-add-result-2 c = let s = c .before .before .before .before .before in let k = s .args .r .detail in let x = arc-few (c .before .before .before .before .gets-arc .result) k (s .pre) in let y = arc-few (c .before .before .gets-arc2 .result) k (s .pre) in let z = fan-few (s .args .due) k (s .pre) in omega (arith, c .before .before .before .arc-size .ensures, c .before .arc-size2 .ensures, c .fan-size .ensures)
+add-result-2 c =
+    let at3 = c .before .before .before in
+    let at4 = at3 .before in
+    let at5 = at4 .before in
+    let s = at5 in
+    let k = s .args .r .detail in
+    let x = arc-few (at4 .gets-arc .result) k (s .pre) in
+    let y = arc-few (c .before .before .gets-arc2 .result) k (s .pre) in
+    let z = fan-few (s .args .due) k (s .pre) in
+    omega (arith, at3 .arc-size .ensures, c .before .arc-size2 .ensures, c .fan-size .ensures)
 
 fan-size-requires-2 : tie.Need-fan-size-requires-2
 fan-size-requires-2 c κs = c .before .before .before .before .before .before .before .pre
 
 add-result-3 : tie.Need-add-result-3
-add-result-3 c = let s = c .before .before .before .before .before .before .before .before in let k = s .args .r .detail in let x = arc-few (c .before .before .before .before .before .before .before .gets-arc .result) k (s .pre) in let y = arc-few (c .before .before .before .before .before .gets-arc2 .result) k (s .pre) in let z = fan-few (s .args .due) k (s .pre) in let u = fan-few (s .args .b .end && s .args .r .caps) k (s .pre) in omega (arith, u, c .before .before .before .before .before .before .arc-size .ensures, c .before .before .before .before .arc-size2 .ensures, c .before .before .before .fan-size .ensures, c .fan-size2 .ensures)
+add-result-3 c =
+    let at3 = c .before .before .before in
+    let at4 = at3 .before in
+    let at5 = at4 .before in
+    let at6 = at5 .before in
+    let at7 = at6 .before in
+    let at8 = at7 .before in
+    let s = at8 in
+    let k = s .args .r .detail in
+    let x = arc-few (at7 .gets-arc .result) k (s .pre) in
+    let y = arc-few (at5 .gets-arc2 .result) k (s .pre) in
+    let z = fan-few (s .args .due) k (s .pre) in
+    let u = fan-few (s .args .b .end && s .args .r .caps) k (s .pre) in
+    omega (arith, u, at6 .arc-size .ensures, at4 .arc-size2 .ensures, at3 .fan-size .ensures, c .fan-size2 .ensures)
 
 returns : tie.Need-returns
 unfolding bendSize

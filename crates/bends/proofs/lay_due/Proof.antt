@@ -14,7 +14,10 @@ negated-requires c κs = search needs
 
 lay-start-fan-requires : tie.Need-lay-start-fan-requires
 unfolding dueWeft startCapOf capOf dataOf
-lay-start-fan-requires c κs = (rw (c .before .start-cap .ensures) (c .before .before .before .before .before .before .before .before .before .before .before .before .pre .0), rw (c .negated .ensures, c .before .start-cap .ensures) (rw (c .before .before .before .before .before .before .before .before .if1 .taken) at (c .before .before .before .before .before .before .before .before .before .before .before .before .pre .1)))
+lay-start-fan-requires c κs =
+    let at8 = c .before .before .before .before .before .before .before .before in
+    let at12 = at8 .before .before .before .before in
+    (rw (c .before .start-cap .ensures) (at12 .pre .0), rw (c .negated .ensures, c .before .start-cap .ensures) (rw (at8 .if1 .taken) at (at12 .pre .1)))
 
 same-length : tie.Need-same-length
 same-length c = search needs
@@ -27,7 +30,12 @@ same-length-3 c = search needs
 
 returns : tie.Need-returns
 unfolding dueWeft
-returns c = rw (c .before .before .before .before .before .before .before .before .before .before .before .before .before .before .before .if1 .taken) (rw (c .before .before .before .before .before .before .before .negated .ensures, c .before .before .before .before .before .before .before .before .start-cap .ensures) at (c .before .before .before .before .before .before .lay-start-fan .ensures))
+returns c =
+    let at6 = c .before .before .before .before .before .before in
+    let at7 = at6 .before in
+    let at8 = at7 .before in
+    let at15 = at8 .before .before .before .before .before .before .before in
+    rw (at15 .if1 .taken) (rw (at7 .negated .ensures, at8 .start-cap .ensures) at (at6 .lay-start-fan .ensures))
 
 returns-2 : tie.Need-returns-2
 unfolding dueWeft

@@ -15,7 +15,14 @@ step-requires : tie.Need-step-requires
 step-requires c κs = steps-one (c .before .before .before .before .before .pre .strip) (c .before .positive-count .result) (c .negative-count .result) (c .before .positive-count .ensures) (c .negative-count .ensures)
 
 place-bend-requires : tie.Need-place-bend-requires
-place-bend-requires c κs = let s = c .before .before .before .before .before .before .before .before .before in let e = next-is (s .pre) (c .before .before .before .before .before .positive-count .result) (c .before .before .before .before .negative-count .result) (c .before .before .before .before .before .positive-count .ensures) (c .before .before .before .before .negative-count .ensures) (c .before .before .before .step .result) (c .before .before .before .step .ensures) in (one-fits (s .pre), count-fits (s .pre) (c .before .before .before .step .result) e)
+place-bend-requires c κs =
+    let at3 = c .before .before .before in
+    let at4 = at3 .before in
+    let at5 = at4 .before in
+    let at9 = at5 .before .before .before .before in
+    let s = at9 in
+    let e = next-is (s .pre) (at5 .positive-count .result) (at4 .negative-count .result) (at5 .positive-count .ensures) (at4 .negative-count .ensures) (at3 .step .result) (at3 .step .ensures) in
+    (one-fits (s .pre), count-fits (s .pre) (at3 .step .result) e)
 
 same-length : tie.Need-same-length
 same-length c = search needs
@@ -27,7 +34,15 @@ same-length-3 : tie.Need-same-length-3
 same-length-3 c = search needs
 
 returns : tie.Need-returns
-returns c = let s = c .before .before .before .before .before .before .before .before .before .before .before .before .before .before .before .before in let e = next-is (s .pre) (c .before .before .before .before .before .before .before .before .before .before .before .before .positive-count .result) (c .before .before .before .before .before .before .before .before .before .before .before .negative-count .result) (c .before .before .before .before .before .before .before .before .before .before .before .before .positive-count .ensures) (c .before .before .before .before .before .before .before .before .before .before .before .negative-count .ensures) (c .before .before .before .before .before .before .before .before .before .before .step .result) (c .before .before .before .before .before .before .before .before .before .before .step .ensures) in one-puts (s .pre) (c .before .before .before .before .before .before .before .before .before .before .step .result) e (c .before .before .before .before .before .before .place-bend .result) (c .before .before .before .before .before .before .place-bend .ensures)
+returns c =
+    let at6 = c .before .before .before .before .before .before in
+    let at10 = at6 .before .before .before .before in
+    let at11 = at10 .before in
+    let at12 = at11 .before in
+    let at16 = at12 .before .before .before .before in
+    let s = at16 in
+    let e = next-is (s .pre) (at12 .positive-count .result) (at11 .negative-count .result) (at12 .positive-count .ensures) (at11 .negative-count .ensures) (at10 .step .result) (at10 .step .ensures) in
+    one-puts (s .pre) (at10 .step .result) e (at6 .place-bend .result) (at6 .place-bend .ensures)
 
 pub pass-bend-spec : {M : Type 1} → statement M
 pass-bend-spec =

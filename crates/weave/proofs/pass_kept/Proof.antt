@@ -22,7 +22,11 @@ same-length-3 : tie.Need-same-length-3
 same-length-3 c = search needs
 
 returns : tie.Need-returns
-returns c = record { leg = c .before .before .before .before .before .before .before .before .before .before .before .next-leg .ensures; puts = rw (c .before .before .before .before .before .before .before .before .before .before .joint-of .ensures, c .before .before .before .before .before .before .before .before .before .before .before .next-leg .ensures) at (c .before .before .before .before .before .before .pass-bend .ensures) }
+returns c =
+    let at6 = c .before .before .before .before .before .before in
+    let at10 = at6 .before .before .before .before in
+    let at11 = at10 .before in
+    record { leg = at11 .next-leg .ensures; puts = rw (at10 .joint-of .ensures, at11 .next-leg .ensures) at (at6 .pass-bend .ensures) }
 
 pub pass-kept-spec : {M : Type 1} → statement M
 pass-kept-spec =

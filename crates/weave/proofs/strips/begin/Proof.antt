@@ -1,8 +1,5 @@
 -- `weave::strips::begin` meets its contract. Assumes nothing.
 use borrow.Author.Needs.{needs}
-use mathlib.Core.Path.{ap}
-use Rattle.endpoint.specs.Endpoint.{sideCountOf}
-use Rattle.endpoint.specs.declared.EndpointData.{EndpointData}
 use Rattle.strip.proofs.Counting.{steps-one}
 use Rattle.weave.proofs.Writing.{cap-next}
 use Rattle.weave.proofs.strips.begin.Statement.{statement}
@@ -21,13 +18,21 @@ start-requires : tie.Need-start-requires
 start-requires c κs = search needs
 
 step-requires : tie.Need-step-requires
-step-requires c κs = rw (c .start .ensures) (steps-one (c .before .before .before .before .pre) (c .before .before .positive-count .result) (c .before .negative-count .result) (rw (c .before .before .before .start-cap .ensures) at (c .before .before .positive-count .ensures)) (rw (c .before .before .before .start-cap .ensures) at (c .before .negative-count .ensures)))
+step-requires c κs =
+    let at3 = c .before .before .before in
+    let at4 = at3 .before in
+    rw (c .start .ensures) (steps-one (at4 .pre) (c .before .before .positive-count .result) (c .before .negative-count .result) (rw (at3 .start-cap .ensures) at (c .before .before .positive-count .ensures)) (rw (at3 .start-cap .ensures) at (c .before .negative-count .ensures)))
 
 unwoven-requires : tie.Need-unwoven-requires
 unwoven-requires c κs = search needs
 
 returns : tie.Need-returns
-returns c = rw (c .unwoven .ensures, cap-next (c .before .before .before .before .before .before .pre) (c .before .before .before .before .positive-count .result) (c .before .before .before .negative-count .result) (rw (c .before .before .before .before .before .start-cap .ensures) at (c .before .before .before .before .positive-count .ensures)) (rw (c .before .before .before .before .before .start-cap .ensures) at (c .before .before .before .negative-count .ensures)) (c .before .step .result) (rw (c .before .before .start .ensures) at (c .before .step .ensures)))
+returns c =
+    let at3 = c .before .before .before in
+    let at4 = at3 .before in
+    let at5 = at4 .before in
+    let at6 = at5 .before in
+    rw (c .unwoven .ensures, cap-next (at6 .pre) (at4 .positive-count .result) (at3 .negative-count .result) (rw (at5 .start-cap .ensures) at (at4 .positive-count .ensures)) (rw (at5 .start-cap .ensures) at (at3 .negative-count .ensures)) (c .before .step .result) (rw (c .before .before .start .ensures) at (c .before .step .ensures)))
 
 pub begin-spec : {M : Type 1} → statement M
 begin-spec =

@@ -38,7 +38,17 @@ part-pass-points-end : tie.Need-part-pass-points-end
 part-pass-points-end c = omega (arith, c .before .before .before .before .before .before .before .before .before .before .before .before .before .before .before .before .before .before .before .before .pre .0)
 
 pass-points-requires-2 : tie.Need-pass-points-requires-2
-pass-points-requires-2 c κs = let s = c .before .before .before .before .before .before .before .before .before .before .before .before .before .before .before .before .before .before .before .before .before in let a = s .args in let two : 2 ≤ length (a .p .now) = omega (arith, s .pre .0 .point) in let back = rw (points-one (a .p .now) (a .on .first .0) two) at (c .before .before .before .before .before .before .before .before .before .before .before .pass-points .ensures) in let few = mid-len (2 * a .on .from) (2 * a .on .from + 2) (a .p .now) (s .pre .0 .point) in let has = on-has (a .pass) (a .r) _ _ _ (s .pre .1) back in rw (c .before .before .before .before .endpoint-after .ensures) (omega (arith, few, s .pre .0), rw (points-one-at (a .p .now) (a .on .first .0) (a .on .from) (s .pre .0 .point)) has)
+pass-points-requires-2 c κs =
+    let at4 = c .before .before .before .before in
+    let at11 = at4 .before .before .before .before .before .before .before in
+    let at21 = at11 .before .before .before .before .before .before .before .before .before .before in
+    let s = at21 in
+    let a = s .args in
+    let two : 2 ≤ length (a .p .now) = omega (arith, s .pre .0 .point) in
+    let back = rw (points-one (a .p .now) (a .on .first .0) two) at (at11 .pass-points .ensures) in
+    let few = mid-len (2 * a .on .from) (2 * a .on .from + 2) (a .p .now) (s .pre .0 .point) in
+    let has = on-has (a .pass) (a .r) _ _ _ (s .pre .1) back in
+    rw (at4 .endpoint-after .ensures) (omega (arith, few, s .pre .0), rw (points-one-at (a .p .now) (a .on .first .0) (a .on .from) (s .pre .0 .point)) has)
 
 same-length : tie.Need-same-length
 same-length c = omega (arith, c .before .before .before .before .before .before .before .pass-points2 .kept, c .before .before .before .before .before .before .before .before .before .before .before .before .before .before .before .before .before .before .before .pass-points .kept)
@@ -50,7 +60,17 @@ same-length-3 : tie.Need-same-length-3
 same-length-3 c = omega (arith, c .before .before .before .before .before .before .before .pass-points2 .kept, c .before .before .before .before .before .before .before .before .before .before .before .before .before .before .before .before .before .before .before .pass-points .kept)
 
 returns : tie.Need-returns
-returns c = let s = c .before .before .before .before .before .before .before .before .before .before .before .before .before .before .before .before .before .before .before .before .before .before .before .before .before .before .before .before .before in let a = s .args in let two : 2 ≤ length (a .p .now) = omega (arith, s .pre .0 .point) in let back = rw (points-one (a .p .now) (a .on .first .0) two) at (c .before .before .before .before .before .before .before .before .before .before .before .before .before .before .before .before .before .before .before .pass-points .ensures) in let ahead = rw (c .before .before .before .before .before .before .before .before .before .before .before .before .endpoint-after .ensures, points-one-at (a .p .now) (a .on .first .0) (a .on .from) (s .pre .0 .point)) at (c .before .before .before .before .before .before .before .pass-points2 .ensures) in round-puts (a .pass) (a .r) _ _ _ (s .pre .1) back ahead
+returns c =
+    let at7 = c .before .before .before .before .before .before .before in
+    let at12 = at7 .before .before .before .before .before in
+    let at19 = at12 .before .before .before .before .before .before .before in
+    let at29 = at19 .before .before .before .before .before .before .before .before .before .before in
+    let s = at29 in
+    let a = s .args in
+    let two : 2 ≤ length (a .p .now) = omega (arith, s .pre .0 .point) in
+    let back = rw (points-one (a .p .now) (a .on .first .0) two) at (at19 .pass-points .ensures) in
+    let ahead = rw (at12 .endpoint-after .ensures, points-one-at (a .p .now) (a .on .first .0) (a .on .from) (s .pre .0 .point)) at (at7 .pass-points2 .ensures) in
+    round-puts (a .pass) (a .r) _ _ _ (s .pre .1) back ahead
 
 pub go-round-spec : {M : Type 1} → statement M
 go-round-spec =
