@@ -1,32 +1,30 @@
 -- A run's items: their strip is rule 9's, every arc is held, and so demand 3. Assumes nothing.
-use Prim.Native.Nat.{ℕ, suc, _+_, _-_, _^_, _≤_, _<_}
+use Prim.Native.Nat.{ℕ, _+_, _-_, _<_}
 use mathlib.Core.Path.{_≡_, refl, sym, ap, _∙_}
 use mathlib.Core.Bool.{true, false}
 use mathlib.Core.List.{List, [], _∷_, _++_, append-assoc, append-nil}
 use mathlib.Core.Logic.{_≢_}
 use native.Mathlib.Omega.{arith}
-use lib.ListN.{length}
 use Rattle.endpoint.specs.Endpoint.{sideCountOf}
 use Rattle.endpoint.specs.declared.EndpointData.{EndpointData}
 use Rattle.endpoint.specs.declared.SidePoints.{SidePoints}
 use Rattle.endpoint.specs.declared.SidePoints.the-variants.{Single, Pair}
 use Rattle.strip.specs.declared.section.Section.{Section}
-use Rattle.triangles.specs.Facts.{In, AllOwn, Names, Linked}
+use Rattle.triangles.specs.Facts.{AllOwn, Linked}
 use Rattle.strip.specs.Joint.{jointCount, vertexCount}
 use Rattle.strip.specs.Section.{sectionOf, beforeOf, afterOf, sections}
 use Rattle.strip.specs.Triangle.{between, stripOf, through, trianglesOf}
 use Rattle.triangles.specs.Tri.{Tri}
-use Rattle.strip.proofs.Joints.{side-few, count-more}
-use Rattle.strip.proofs.Facts.Counts.{open-count, closed-count}
-use Rattle.strip.proofs.Facts.Ladder.{Move, toP, toN, ladder, between-both, beforeN, afterN, afterP, inP, inN, inner, inner-triangles}
+use Rattle.strip.proofs.Joints.{side-few}
+use Rattle.strip.proofs.Facts.Ladder.{ladder, between-both, beforeN, afterN, afterP, inP, inN, inner, inner-triangles}
 use Rattle.strip.proofs.Facts.Named.{open-named, closed-named}
 use Rattle.strip.proofs.Facts.Owns.{open-own, closed-own}
 use Rattle.strip.proofs.Facts.Shares.{open-linked, closed-linked}
 use Rattle.triangles.proofs.Having.{in-a, in-b, in-c}
-use Rattle.triangles.specs.Attached.{Has, first, later, Joined, Spans}
-use Rattle.braid.specs.Weave.{Item, one, arc, added, strip, woven, Held}
-use Rattle.braid.specs.Round.{ones, Levels, Sound, sideArc, jointItems, onward, startCap, endCap, openItems, closedItems, sideAdded, jointsAdded}
-use Rattle.braid.proofs.Woven.{woven-count, woven-own, woven-named, woven-joined}
+use Rattle.triangles.specs.Attached.{first, later, Spans}
+use Rattle.braid.specs.Weave.{Item, added, strip, woven, Held}
+use Rattle.braid.specs.Round.{ones, Levels, Sound, sideArc, jointItems, onward, startCap, endCap, openItems, closedItems}
+use Rattle.braid.proofs.Woven.{woven-own, woven-named, woven-joined}
 
 -- the strip of the items
 strip-ones : (ts : List Tri) (ps : List Item) → strip (ones ts ++ ps) ≡ ts ++ strip ps

@@ -1,16 +1,13 @@
 -- Demand 3 of a round empty cap: 2^(k+2) vertices and two triangles fewer. Assumes nothing.
-use Prim.Native.Nat.{ℕ, suc, _+_, _-_, _*_, _^_, _≤_, _<_}
-use mathlib.Core.Path.{_≡_, refl, sym, ap, _∙_}
-use mathlib.Core.List.{List, [], _∷_, _++_}
-use mathlib.Core.Logic.{_≢_}
+use Prim.Native.Nat.{ℕ, suc, _+_, _^_, _≤_, _<_}
+use mathlib.Core.Path.{_≡_, refl, sym, ap}
+use mathlib.Core.List.{List, [], _∷_}
 use native.Mathlib.Decide.{ℕ-discrete}
 use native.Mathlib.Omega.{arith}
 use lib.ListN.{length}
-use Rattle.triangles.specs.Facts.{In, Own, AllOwn, Names, here, there, shared, Linked}
-use Rattle.triangles.specs.Tri.{Tri}
+use Rattle.triangles.specs.Facts.{Own, AllOwn, Names, here, there, shared, Linked}
 use Rattle.triangles.proofs.Having.{in-a, in-b, in-c, in-none}
-use Rattle.triangles.specs.Attached.{Spans}
-use Rattle.braid.specs.Weave.{Item, one, arc, added, strip, woven, Held}
+use Rattle.braid.specs.Weave.{Item, added, strip, woven, Held}
 use Rattle.braid.specs.Round.{Sound, squareItems}
 use Rattle.arc.proofs.Triangles.{pow-some}
 use Rattle.braid.proofs.Woven.{woven-count, woven-own, woven-named, woven-joined}

@@ -1,7 +1,6 @@
 -- Demand 3's counts of a run with arcs. Assumes nothing.
-use Prim.Native.Nat.{ℕ, suc, _+_, _-_, _*_, _^_, _≤_, _<_}
-use mathlib.Core.Path.{_≡_, refl, sym, ap, _∙_}
-use mathlib.Core.Bool.{true, false}
+use Prim.Native.Nat.{ℕ, _+_, _-_, _^_}
+use mathlib.Core.Path.{_≡_, refl, ap}
 use mathlib.Core.List.{List, [], _∷_, _++_}
 use native.Mathlib.Omega.{arith}
 use lib.ListN.{length}
@@ -15,7 +14,7 @@ use Rattle.strip.specs.Section.{beforeOf, afterOf}
 use Rattle.strip.specs.Triangle.{between}
 use Rattle.triangles.specs.Tri.{Tri}
 use Rattle.strip.proofs.Facts.Counts.{open-count, closed-count}
-use Rattle.braid.specs.Weave.{Item, one, arc, added, strip, woven}
+use Rattle.braid.specs.Weave.{Item, one, arc, added, woven}
 use Rattle.braid.specs.Round.{ones, Levels, sideArc, jointItems, onward, startCap, endCap, openItems, closedItems, sideAdded, jointsAdded}
 use Rattle.braid.proofs.Woven.{woven-count}
 use Rattle.braid.proofs.Rounds.{strip-open, strip-closed}

@@ -1,14 +1,14 @@
 -- Demand 3 of a run's triangles from that of its strip's: count, own, named, attached. Assumes nothing.
-use Prim.Native.Nat.{ℕ, zero, suc, _+_, _-_, _^_, _≤_, _<_}
+use Prim.Native.Nat.{ℕ, _+_, _-_, _^_, _≤_, _<_}
 use mathlib.Core.Path.{_≡_, refl, ap, sym}
 use mathlib.Core.List.{List, [], _∷_, _++_, append-assoc}
 use mathlib.Core.Logic.{_≢_}
 use native.Mathlib.Decide.{decLt}
 use native.Mathlib.Omega.{arith}
 use lib.ListN.{length, length-append}
-use Rattle.triangles.specs.Facts.{In, Own, AllOwn, inTri, Names, here, there, shared, Chain, Linked}
+use Rattle.triangles.specs.Facts.{In, AllOwn, Names, here, there, Chain, Linked}
 use Rattle.triangles.specs.Tri.{Tri}
-use Rattle.triangles.specs.Attached.{Has, first, later, Meets, Attached, Joined, Spans}
+use Rattle.triangles.specs.Attached.{Has, first, later, Attached, Joined, Spans}
 use Rattle.arc.specs.Arc.{arcTriangles}
 use Rattle.braid.specs.Weave.{Item, one, arc, added, strip, woven, Held}
 use Rattle.triangles.proofs.Having.{own-in, own-none, own-wider, own-append, own-has, names-left, names-right}
