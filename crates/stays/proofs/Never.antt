@@ -1,5 +1,4 @@
 -- What specs/Stays.antt says, of whole runs: each point of a dash is the run's first, a corner or a cut, and all of these are inside. Assumes nothing.
-use Prim.Native.Nat.{_+_}
 use mathlib.Core.Path.{_≡_}
 use mathlib.Core.Bool.{Bool, true, false, _&&_, cond}
 use mathlib.Core.List.{List, [], _∷_, _++_}
