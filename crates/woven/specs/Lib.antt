@@ -1,0 +1,2 @@
+-- `Woven` is what a round run draws.
+pub mod Woven
