@@ -27,6 +27,13 @@ pub fn measure_of(case: MeshCase) -> MeasureCase {
     }
 }
 
+/// A run that the path does not have; a machine of 32 bits has no number beyond its greatest.
+fn far_off(rng: &mut Rng, runs: usize) -> usize {
+    let beyond = [4_294_967_295, 4_294_967_296, 9_999_999_999];
+    let [a, b, c] = beyond.map(|n: u64| usize::try_from(n).unwrap_or(usize::MAX));
+    rng.pick(&[runs + 1, 9, a, b, c])
+}
+
 /// One of its runs asked for, or one that it does not have.
 pub fn part_of(rng: &mut Rng, case: MeshCase) -> PartCase {
     let runs = case.verbs.iter().filter(|&&verb| verb > LINE).count();
@@ -34,7 +41,7 @@ pub fn part_of(rng: &mut Rng, case: MeshCase) -> PartCase {
         0 => 0,
         1 => runs.saturating_sub(1),
         2 => runs,
-        3 => rng.pick(&[runs + 1, 9, 4_294_967_295, 4_294_967_296, 9_999_999_999]),
+        3 => far_off(rng, runs),
         _ => rng.below(runs + 1),
     };
     PartCase {
