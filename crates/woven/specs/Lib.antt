@@ -1,2 +1,4 @@
--- `Woven` is what a round run draws.
+-- `Woven` is what a round run draws, `Cap` the round empty cap; `Counts` what arcs add.
 pub mod Woven
+pub mod Cap
+pub mod Counts
