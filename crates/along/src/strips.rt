@@ -60,7 +60,7 @@ fn pass_cap(
 }
 
 // The start cap.
-fn begin(
+pub fn begin(
     v: &mut [f32],
     src: &mut [u32],
     t: &mut [Index],
@@ -80,7 +80,7 @@ fn begin(
 }
 
 // The end cap.
-fn finish(v: &mut [f32], src: &mut [u32], t: &mut [Index], pass: Pass, w: Walk) -> Strip
+pub fn finish(v: &mut [f32], src: &mut [u32], t: &mut [Index], pass: Pass, w: Walk) -> Strip
     requires { ⌜ StripFits (pass .write) (w .strip) (endCapOf (pass .stroke) (w .leg) ∷ []) (lent (now v) (now src) (now t)) ⌝ }
     ensures { λ r. ⌜ StripPasses (pass .write) (endCapOf (pass .stroke) (w .leg) ∷ []) (w .strip) (lent (now (v .entry)) (now (src .entry)) (now (t .entry))) (lent (now (v .exit)) (now (src .exit)) (now (t .exit))) r ⌝ }
 {
