@@ -34,6 +34,7 @@ pub enum LineJoin {
     Miter,
     MiterClip,
     Bevel,
+    Round,
 }
 
 pub enum Side {

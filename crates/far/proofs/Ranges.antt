@@ -15,7 +15,7 @@ use lib.Ieee.Positive.{num, den, den-pos, between, positive-finite, le→cross}
 use Rattle.plane.specs.Normal.{pick}
 use Rattle.plane.specs.F32.{sizeAtMost}
 use Rattle.path.specs.Coordinates.{coordinateLimit}
-use Rattle.options.specs.Options.{within, widthIn, limitIn, mergeIn, joinIn, capIn, inRange, preparedOf, accepting, strokeOf}
+use Rattle.options.specs.Options.{within, widthIn, limitIn, mergeIn, joinIn, capIn, detailIn, inRange, preparedOf, accepting, strokeOf}
 use Rattle.options.specs.declared.Options.{Options}
 use Rattle.options.specs.declared.Stroke.{Stroke}
 use Rattle.options.specs.declared.StrokeAnswer.{StrokeAnswer}
@@ -155,7 +155,7 @@ module _ (o : Options) (e : inRange o ≡ true) where
 
   floats-in : T floats
   unfolding inRange
-  floats-in = and-l floats (joinIn (o .«line_join») && capIn (o .cap)) (told (inRange o) e)
+  floats-in = and-l floats (detailIn (o .detail)) (and-l (floats && detailIn (o .detail)) (joinIn (o .«line_join») && capIn (o .cap)) (told (inRange o) e))
 
   pub width-in : T (widthIn (o .width))
   width-in = and-l (widthIn (o .width)) (limitIn (o .«miter_limit»)) (and-l (widthIn (o .width) && limitIn (o .«miter_limit»)) (mergeIn (o .«merge_range»)) floats-in)

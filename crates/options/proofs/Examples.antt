@@ -12,18 +12,21 @@ use Rattle.options.specs.declared.Options.{Options}
 pub data Case : Type 0 where
   -- the patterns of width and miter limit, join and cap; then the number, and the patterns of half width and clip
   stroke : ℕ → ℕ → ℕ → ℕ → ℕ → ℕ → ℕ → Case
+  -- the arc detail, with nothing round; then the number
+  detailed : ℕ → ℕ → Case
   -- the pattern of the merge range; then the number, and the pattern of the limit of nearness
   merge : ℕ → ℕ → ℕ → Case
 
-abbrev options : ℕ → ℕ → ℕ → ℕ → ℕ → Options
-options w m j c r = record { width = f32 w; «miter_limit» = f32 m; «line_join» = j; cap = c; «merge_range» = f32 r }
+abbrev options : ℕ → ℕ → ℕ → ℕ → ℕ → ℕ → Options
+options w m j c r k = record { width = f32 w; «miter_limit» = f32 m; «line_join» = j; cap = c; «merge_range» = f32 r; detail = k }
 
 says : Case → Bool
 says (stroke w m j c number h clip) =
-    let a = strokeOf (options w m j c 0x3c000000) in
+    let a = strokeOf (options w m j c 0x3c000000 0) in
     eqb (a .number) number && eqb (a .place) 0 && (eqb (toBits binary32 (a .stroke .«half_width»)) h && eqb (toBits binary32 (a .stroke .clip)) clip)
+says (detailed k number) = eqb (strokeOf (options 0x40000000 0x40800000 0 0 0x3c000000 k) .number) number
 says (merge r number near) =
-    let a = strokeOf (options 0x40000000 0x40800000 0 0 r) in
+    let a = strokeOf (options 0x40000000 0x40800000 0 0 r 0) in
     eqb (a .number) number && eqb (a .place) 0 && eqb (toBits binary32 (a .stroke .near)) near
 
 pub every : List Case → Bool
@@ -42,8 +45,10 @@ cases =
     ∷ stroke 0x40000000 0x3f800000 1 0 0 0x3f800000 0 ∷ stroke 0x40000000 0x3f7fffff 1 0 1 0 0
     ∷ stroke 0x40000000 0x44800000 1 0 0 0x3f800000 0 ∷ stroke 0x40000000 0x44800001 1 0 1 0 0
     ∷ stroke 0x40000000 0x7fc00000 1 0 1 0 0
-    -- no such join, no such cap
-    ∷ stroke 0x40000000 0x40800000 3 0 1 0 0 ∷ stroke 0x40000000 0x40800000 0 2 1 0 0
+    -- Round joins and caps, whose clip is 0; no such join, no such cap
+    ∷ stroke 0x40000000 0x40800000 3 2 0 0x3f800000 0 ∷ stroke 0x40000000 0x40800000 4 0 1 0 0 ∷ stroke 0x40000000 0x40800000 0 3 1 0 0
+    -- a detail of 6 and of 7
+    ∷ detailed 6 0 ∷ detailed 7 1
     -- merge range 1/128, whose square is 2^-14, and the f32 below it, 1/256, 1 and the next; 0.15, whose square is rounded; a NaN
     ∷ merge 0x3c000000 0 0x38800000 ∷ merge 0x3bffffff 1 0 ∷ merge 0x3b800000 1 0 ∷ merge 0x3f800000 0 0x3f800000 ∷ merge 0x3f800001 1 0
     ∷ merge 0x3e19999a 0 0x3cb851ec ∷ merge 0x7fc00000 1 0 ∷ []

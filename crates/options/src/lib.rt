@@ -4,7 +4,7 @@ use refusals::ACCEPTED;
 use refusals::Refusal;
 use refusals::verdict_of;
 ghost use mathlib.Core.Path.{_≡_};
-ghost use Rattle.options.specs.Options.{within, inRange, lineJoinOf, lineCapOf, clipOf, preparedOf, noStroke, strokeOf, strokeAnswerOf};
+ghost use Rattle.options.specs.Options.{within, inRange, lineJoinOf, lineCapOf, clipOf, preparedOf, noStroke, strokeOf, strokeAnswerOf, roundsJoins, roundsCaps, isRound, levelOf};
 
 // What a caller may choose. An option outside its range is refused with 1.
 pub struct Options {
@@ -13,19 +13,22 @@ pub struct Options {
     // How far the tip of a join may lie from its point, in half widths: 1 to 1,024.
     pub miter_limit: f32,
     // The shape of a corner: 0 Miter, a tip, or beyond the limit a Bevel; 1 MiterClip, a tip, or
-    // beyond the limit one that is cut off there; 2 Bevel, the corner cut straight across. A path
-    // that runs back along itself is beyond every limit.
+    // beyond the limit one that is cut off there; 2 Bevel, the corner cut straight across; 3 Round,
+    // an arc about the point. A path that runs back along itself is beyond every limit.
     pub line_join: u32,
     // The shape of both ends of an open run: 0 Butt, ending at the point; 1 Square, half a width
-    // beyond it.
+    // beyond it; 2 Round, a half circle about it.
     pub cap: u32,
     // A point nearer than this to the last one kept is merged with it: 1/128 to 1.
     pub merge_range: f32,
+    // How fine arcs are, k: 0 to 6. The arc of a corner has 2^k - 1 vertices of its own.
+    pub detail: u32,
 }
 
 pub enum LineCap {
     Butt,
     Square,
+    Round,
 }
 
 // All that the rules use of the options.
@@ -39,6 +42,8 @@ pub struct Stroke {
     pub clip: f32,
     // Points whose squared distance is below this are near (rule 1): the merge range squared.
     pub near: f32,
+    // The k of arcs.
+    pub detail: u32,
 }
 
 // What `stroke_of` says: the options as the rules use them, or refusal 1.
@@ -74,7 +79,10 @@ fn is_in_range(o: Options) -> bool
     if !is_within(0.0078125, o.merge_range, 1.0) {
         return false;
     }
-    o.line_join <= 2 && o.cap <= 1
+    if 6 < o.detail {
+        return false;
+    }
+    o.line_join <= 3 && o.cap <= 2
 }
 
 fn line_join_of(number: u32) -> LineJoin
@@ -83,7 +91,8 @@ fn line_join_of(number: u32) -> LineJoin
     match number {
         0 => LineJoin::Miter,
         1 => LineJoin::MiterClip,
-        _ => LineJoin::Bevel,
+        2 => LineJoin::Bevel,
+        _ => LineJoin::Round,
     }
 }
 
@@ -92,7 +101,8 @@ fn line_cap_of(number: u32) -> LineCap
 {
     match number {
         0 => LineCap::Butt,
-        _ => LineCap::Square,
+        1 => LineCap::Square,
+        _ => LineCap::Round,
     }
 }
 
@@ -103,6 +113,7 @@ fn clip_of(number: u32, h: f32) -> f32
     match line_cap_of(number) {
         LineCap::Butt => 0.0,
         LineCap::Square => h,
+        LineCap::Round => 0.0,
     }
 }
 
@@ -118,6 +129,7 @@ fn prepared(o: Options) -> Stroke
         cap: line_cap_of(o.cap),
         clip: clip_of(o.cap, h),
         near: o.merge_range * o.merge_range,
+        detail: o.detail,
     }
 }
 
@@ -140,6 +152,7 @@ fn no_stroke() -> Stroke
         cap: LineCap::Butt,
         clip: 0.0,
         near: 0.0,
+        detail: 0,
     }
 }
 
@@ -162,4 +175,48 @@ pub fn stroke_answer_of(s: Stroked) -> StrokeAnswer
             }
         }
     }
+}
+
+// Whether corners have arcs, and whether ends have.
+pub fn rounds_joins(j: LineJoin) -> bool
+    ensures { λ r. ⌜ r ≡ roundsJoins j ⌝ }
+{
+    match j {
+        LineJoin::Miter => false,
+        LineJoin::MiterClip => false,
+        LineJoin::Bevel => false,
+        LineJoin::Round => true,
+    }
+}
+
+pub fn rounds_caps(c: LineCap) -> bool
+    ensures { λ r. ⌜ r ≡ roundsCaps c ⌝ }
+{
+    match c {
+        LineCap::Butt => false,
+        LineCap::Square => false,
+        LineCap::Round => true,
+    }
+}
+
+// Whether a stroke has arcs at all.
+pub fn is_round(o: Stroke) -> bool
+    ensures { λ r. ⌜ r ≡ isRound o ⌝ }
+{
+    let j = o.line_join;
+    let c = o.cap;
+    rounds_joins(j) | rounds_caps(c)
+}
+
+// How many levels deep its arcs go: 6 at the most, whatever a stroke says, so that no caller has to be asked.
+pub fn level_of(o: Stroke) -> u32
+    ensures { λ r. ⌜ r ≡ levelOf o ⌝ }
+{
+    if !is_round(o) {
+        return 0;
+    }
+    if o.detail < 6 {
+        return o.detail;
+    }
+    6
 }

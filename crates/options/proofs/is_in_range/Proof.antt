@@ -41,24 +41,37 @@ returns-3 c =
 returns-4 : tie.Need-returns-4
 unfolding inRange
 returns-4 c =
-    let near = c .before .before .before in
-    let sharp = near .before .before in
-    let wide = sharp .before .before in
-    let w = not-false (wide .before .is-within .result) (wide .if1 .left) in
-    let m = not-false (sharp .before .is-within2 .result) (sharp .if2 .left) in
-    let r = not-false (near .before .is-within3 .result) (near .if3 .left) in
-    rw (← wide .before .is-within .ensures, w, ← sharp .before .is-within2 .ensures, m, ← near .before .is-within3 .ensures, r, le-leb _ _ (c .before .if4 .taken))
-
-returns-5 : tie.Need-returns-5
-unfolding inRange
-returns-5 c =
     let near = c .before .before in
     let sharp = near .before .before in
     let wide = sharp .before .before in
     let w = not-false (wide .before .is-within .result) (wide .if1 .left) in
     let m = not-false (sharp .before .is-within2 .result) (sharp .if2 .left) in
     let r = not-false (near .before .is-within3 .result) (near .if3 .left) in
-    rw (← wide .before .is-within .ensures, w, ← sharp .before .is-within2 .ensures, m, ← near .before .is-within3 .ensures, r, lt-leb _ _ (c .if4 .left))
+    rw (← wide .before .is-within .ensures, w, ← sharp .before .is-within2 .ensures, m, ← near .before .is-within3 .ensures, r, lt-leb _ _ (c .if4 .taken))
+
+returns-5 : tie.Need-returns-5
+unfolding inRange
+returns-5 c =
+    let shallow = c .before .before .before in
+    let near = shallow .before .before in
+    let sharp = near .before .before in
+    let wide = sharp .before .before in
+    let w = not-false (wide .before .is-within .result) (wide .if1 .left) in
+    let m = not-false (sharp .before .is-within2 .result) (sharp .if2 .left) in
+    let r = not-false (near .before .is-within3 .result) (near .if3 .left) in
+    rw (← wide .before .is-within .ensures, w, ← sharp .before .is-within2 .ensures, m, ← near .before .is-within3 .ensures, r, le-leb _ _ (shallow .if4 .left), le-leb _ _ (c .before .if5 .taken))
+
+returns-6 : tie.Need-returns-6
+unfolding inRange
+returns-6 c =
+    let shallow = c .before .before in
+    let near = shallow .before .before in
+    let sharp = near .before .before in
+    let wide = sharp .before .before in
+    let w = not-false (wide .before .is-within .result) (wide .if1 .left) in
+    let m = not-false (sharp .before .is-within2 .result) (sharp .if2 .left) in
+    let r = not-false (near .before .is-within3 .result) (near .if3 .left) in
+    rw (← wide .before .is-within .ensures, w, ← sharp .before .is-within2 .ensures, m, ← near .before .is-within3 .ensures, r, le-leb _ _ (shallow .if4 .left), lt-leb _ _ (c .if5 .left))
 
 pub is-in-range-spec : {M : Type 1} → statement M
 is-in-range-spec =
@@ -71,4 +84,5 @@ is-in-range-spec =
     is-within-requires-3
     returns-3
     returns-4
-    returns-5)
+    returns-5
+    returns-6)

@@ -14,7 +14,11 @@ returns-2 c = rw (c .match .keys2)
 
 returns-3 : tie.Need-returns-3
 unfolding lineJoinOf
-returns-3 c = rw (ne-eqb _ 0 (c .match .rest .0 .1), ne-eqb _ 1 (c .match .rest .1))
+returns-3 c = rw (c .match .keys3)
+
+returns-4 : tie.Need-returns-4
+unfolding lineJoinOf
+returns-4 c = rw (ne-eqb _ 0 (c .match .rest .0 .0 .1), ne-eqb _ 1 (c .match .rest .0 .1), ne-eqb _ 2 (c .match .rest .1))
 
 pub line-join-of-spec : {M : Type 1} → statement M
-line-join-of-spec = tie.close (tie.spec returns returns-2 returns-3)
+line-join-of-spec = tie.close (tie.spec returns returns-2 returns-3 returns-4)
