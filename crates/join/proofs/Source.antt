@@ -13,7 +13,7 @@ use Rattle.plane.specs.Vector.{plusOf, minusOf, timesOf, dotOf, crossOf, square
 use Rattle.endpoint.specs.Endpoint.{signOf}
 use Rattle.endpoint.specs.declared.EndpointData.{EndpointData}
 use Rattle.endpoint.specs.declared.LineJoin.{LineJoin}
-use Rattle.endpoint.specs.declared.LineJoin.the-variants.{Miter, MiterClip, Bevel}
+use Rattle.endpoint.specs.declared.LineJoin.the-variants.{Miter, MiterClip, Bevel, Round}
 use Rattle.endpoint.specs.declared.Side.{Side}
 use Rattle.endpoint.specs.declared.Side.the-variants.{Positive, Negative}
 use Rattle.join.specs.Clip.{zeroOf, cutOf, clippedOf}
@@ -56,6 +56,7 @@ miter-or-clip : (j : LineJoin) → (isMiter j || isMiterClip j) ≡ crate.isMite
 miter-or-clip Miter = refl
 miter-or-clip MiterClip = refl
 miter-or-clip Bevel = refl
+miter-or-clip Round = refl
 
 -- the branches by their tests: inward, normal_same_side, forward, the back vertex past both edges, a tiny normal, a tip within the limit, a clip
 module _ {A : Type 0} (f : Side → Bool) (side : Side) (h : f side ≡ false) (x : Kind → (Side → Bool) → A) where

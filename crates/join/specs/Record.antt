@@ -36,24 +36,28 @@ sideOf before after side e = joinSideOf (cornerOf before after side) (before .to
 unfoldable pub innerJoinOf : Bool → Bool → InnerJoin
 innerJoinOf positive negative = pick positive (pick negative Both Positive) (pick negative Negative Neither)
 
+-- the endpoint's record with its sides set
+abbrev pub workedOf : EndpointData → JoinSide → JoinSide → EndpointData
+workedOf e p n = record {
+  position = e .position;
+  «half_width» = e .«half_width»;
+  advancement = e .advancement;
+  «line_join» = e .«line_join»;
+  id = e .id;
+  positive = p .points;
+  negative = n .points;
+  «fold_positive» = p .fold;
+  «fold_negative» = n .fold;
+  «inner_join» = innerJoinOf (p .inner) (n .inner);
+}
+
 -- "A join is worked from the unmoved points of its two edges, both sides, by `compute_join_side_positions`."
 unfoldable pub sidePositionsOf : Edge → EndpointData → Edge → Float → Float → Float → EndpointData
 sidePositionsOf before e after prev next limit =
     let turn = turnOf before e after prev next limit in
     let p = sideOf (before .positive) (after .positive) OnPositive turn in
     let n = sideOf (before .negative) (after .negative) OnNegative turn in
-    record {
-      position = e .position;
-      «half_width» = e .«half_width»;
-      advancement = e .advancement;
-      «line_join» = e .«line_join»;
-      id = e .id;
-      positive = p .points;
-      negative = n .points;
-      «fold_positive» = p .fold;
-      «fold_negative» = n .fold;
-      «inner_join» = innerJoinOf (p .inner) (n .inner);
-    }
+    workedOf e p n
 
 -- how many points a join's sides have
 unfoldable pub countsOf : EndpointData → Counts

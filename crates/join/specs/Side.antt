@@ -10,7 +10,7 @@ use Rattle.plane.specs.Vector.{plusOf, minusOf, timesOf, negatedOf, dotOf, cros
 use Rattle.plane.specs.declared.vector.Point.{Point}
 use Rattle.endpoint.specs.Endpoint.{signOf, singleOf, pairOf}
 use Rattle.endpoint.specs.declared.LineJoin.{LineJoin}
-use Rattle.endpoint.specs.declared.LineJoin.the-variants.{Miter, MiterClip, Bevel}
+use Rattle.endpoint.specs.declared.LineJoin.the-variants.{Miter, MiterClip, Bevel, Round}
 use Rattle.endpoint.specs.declared.Side.{Side}
 use Rattle.endpoint.specs.declared.SidePoints.{SidePoints}
 use Rattle.join.specs.Clip.{zeroOf, cutOf, clippedOf}
@@ -27,11 +27,13 @@ abbrev pub isMiter : LineJoin → Bool
 isMiter Miter = true
 isMiter MiterClip = true
 isMiter Bevel = false
+isMiter Round = false
 
 abbrev pub isClip : LineJoin → Bool
 isClip Miter = false
 isClip MiterClip = true
 isClip Bevel = false
+isClip Round = false
 
 -- "Side sign is 1 or -1.": the directions of a side's edges, and the normal between them, times the sign
 unfoldable pub cornerOf : EdgeSide → EdgeSide → Side → Corner

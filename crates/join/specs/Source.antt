@@ -15,7 +15,7 @@ use Rattle.endpoint.specs.declared.EndpointData.{EndpointData}
 use Rattle.endpoint.specs.declared.InnerJoin.{InnerJoin}
 use Rattle.endpoint.specs.declared.InnerJoin.the-variants as inner
 use Rattle.endpoint.specs.declared.LineJoin.{LineJoin}
-use Rattle.endpoint.specs.declared.LineJoin.the-variants.{Miter, MiterClip, Bevel}
+use Rattle.endpoint.specs.declared.LineJoin.the-variants.{Miter, MiterClip, Bevel, Round}
 use Rattle.endpoint.specs.declared.Side.{Side}
 use Rattle.endpoint.specs.declared.Side.the-variants.{Positive, Negative}
 use Rattle.endpoint.specs.declared.SidePoints.{SidePoints}
@@ -66,11 +66,13 @@ abbrev pub isMiter : LineJoin → Bool
 isMiter Miter = true
 isMiter MiterClip = false
 isMiter Bevel = false
+isMiter Round = false
 
 abbrev pub isMiterClip : LineJoin → Bool
 isMiterClip Miter = false
 isMiterClip MiterClip = true
 isMiterClip Bevel = false
+isMiterClip Round = false
 
 unfoldable pub computeJoinSidePositions : SourceData → SourceData → SourceData → Float → Side → SourceData
 computeJoinSidePositions prev join next «miter_limit» side =

@@ -1,5 +1,6 @@
 // Both sides of a join, and the record of its endpoint: it goes in by value and comes back with its sides set.
 use crate::edge::Edge;
+use crate::side::JoinSide;
 use crate::side::Turn;
 use crate::side::corner_of;
 use crate::side::decide;
@@ -11,7 +12,7 @@ use endpoint::Side;
 use endpoint::side_count;
 use plane::vector::plus;
 ghost use mathlib.Core.Path.{_≡_};
-ghost use Rattle.join.specs.Record.{turnOf, innerJoinOf, sidePositionsOf, countsOf};
+ghost use Rattle.join.specs.Record.{turnOf, innerJoinOf, workedOf, sidePositionsOf, countsOf};
 
 // prev and next are the advancements of the endpoints before and after a join: as in the source, an edge is as long as its ends'
 // advancements differ.
@@ -48,6 +49,29 @@ fn inner_join_of(positive: bool, negative: bool) -> InnerJoin
     InnerJoin::Neither
 }
 
+// The record with its sides set.
+fn worked(join: EndpointData, p: JoinSide, n: JoinSide) -> EndpointData
+    ensures { λ r. ⌜ r ≡ workedOf join p n ⌝ }
+{
+    let position = join.position;
+    let kind = join.line_join;
+    let id = join.id;
+    let positive = p.points;
+    let negative = n.points;
+    EndpointData {
+        position: position,
+        half_width: join.half_width,
+        advancement: join.advancement,
+        line_join: kind,
+        id: id,
+        positive: positive,
+        negative: negative,
+        fold_positive: p.fold,
+        fold_negative: n.fold,
+        inner_join: inner_join_of(p.inner, n.inner),
+    }
+}
+
 // lyon's `compute_join_side_positions`, for both sides: each is decided and worked.
 pub fn compute_join_side_positions(
     before: Edge,
@@ -66,23 +90,29 @@ pub fn compute_join_side_positions(
     let an = after.negative;
     let p = join_side(corner_of(bp, ap, Side::Positive), bp.to, ap.from, e);
     let n = join_side(corner_of(bn, an, Side::Negative), bn.to, an.from, e);
-    let position = join.position;
-    let kind = join.line_join;
-    let id = join.id;
-    let positive = p.points;
-    let negative = n.points;
-    EndpointData {
-        position: position,
-        half_width: join.half_width,
-        advancement: join.advancement,
-        line_join: kind,
-        id: id,
-        positive: positive,
-        negative: negative,
-        fold_positive: p.fold,
-        fold_negative: n.fold,
-        inner_join: inner_join_of(p.inner, n.inner),
-    }
+    worked(join, p, n)
+}
+
+// The same for the pass that weaves arcs in. What one place alone calls the compiler copies in there: so the pass along a strip keeps the whole of a point's work in one
+// function, and a point of a stroke that is not round costs what it did.
+pub fn rejoin(
+    before: Edge,
+    join: EndpointData,
+    after: Edge,
+    prev: f32,
+    next: f32,
+    limit: f32,
+) -> EndpointData
+    ensures { λ r. ⌜ r ≡ sidePositionsOf before join after prev next limit ⌝ }
+{
+    let e = turn_of(before, join, after, prev, next, limit);
+    let bp = before.positive;
+    let ap = after.positive;
+    let bn = before.negative;
+    let an = after.negative;
+    let p = join_side(corner_of(bp, ap, Side::Positive), bp.to, ap.from, e);
+    let n = join_side(corner_of(bn, an, Side::Negative), bn.to, an.from, e);
+    worked(join, p, n)
 }
 
 // How many points the sides of a join have.

@@ -74,6 +74,7 @@ fn is_miter(j: LineJoin) -> bool
         LineJoin::Miter => true,
         LineJoin::MiterClip => true,
         LineJoin::Bevel => false,
+        LineJoin::Round => false,
     }
 }
 
@@ -84,6 +85,7 @@ fn is_clip(j: LineJoin) -> bool
         LineJoin::Miter => false,
         LineJoin::MiterClip => true,
         LineJoin::Bevel => false,
+        LineJoin::Round => false,
     }
 }
 

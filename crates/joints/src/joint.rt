@@ -8,6 +8,7 @@ use endpoint::single;
 use join::record::Counts;
 use join::record::compute_join_side_positions;
 use join::record::count_join;
+use join::record::rejoin;
 use options::Stroke;
 use plane::vector::Point;
 use plane::vector::negated;
@@ -58,6 +59,20 @@ pub fn joint_of(o: Stroke, leg: Leg, next: Leg) -> EndpointData
     ensures { λ r. ⌜ r ≡ jointOf o leg next ⌝ }
 {
     compute_join_side_positions(
+        leg.edge,
+        unworked(o, leg),
+        next.edge,
+        leg.start,
+        next.end,
+        o.miter_limit,
+    )
+}
+
+// The same for the pass that weaves arcs in.
+pub fn joint_again(o: Stroke, leg: Leg, next: Leg) -> EndpointData
+    ensures { λ r. ⌜ r ≡ jointOf o leg next ⌝ }
+{
+    rejoin(
         leg.edge,
         unworked(o, leg),
         next.edge,

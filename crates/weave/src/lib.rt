@@ -9,7 +9,7 @@ use bends::Weave;
 use bends::pass_bend;
 use endpoint::Endpoint;
 use fans::Round;
-use joints::joint::joint_of;
+use joints::joint::joint_again;
 use joints::leg::Leg;
 use joints::leg::next_leg;
 use kept::endpoint_at;
@@ -32,7 +32,7 @@ pub struct Walk {
 }
 
 // The next point, which is kept.
-fn pass_kept(
+pub fn pass_kept(
     v: &mut [f32],
     src: &mut [u32],
     t: &mut [Index],
@@ -49,7 +49,7 @@ fn pass_kept(
     let weave = w.weave;
     let next = next_leg(o.half_width, leg, p);
     let b = Bend {
-        joint: joint_of(o, leg, next),
+        joint: joint_again(o, leg, next),
         leg: leg,
         end: false,
     };

@@ -48,7 +48,7 @@ fn unwoven(base: VertexId) -> Place
 }
 
 // Behind the start cap, whose fan is due where caps are round.
-fn begin(o: Stroke, r: Round, leg: Leg, base: VertexId, arcs: VertexId) -> Weave
+pub fn begin(o: Stroke, r: Round, leg: Leg, base: VertexId, arcs: VertexId) -> Weave
     requires { ⌜ StripFits false (startOf base) (startCapOf o leg ∷ []) (lent [] [] []) ⌝ }
     ensures { λ w. ⌜ w ≡ openedOf o r leg base arcs ⌝ }
 {
@@ -64,7 +64,14 @@ fn begin(o: Stroke, r: Round, leg: Leg, base: VertexId, arcs: VertexId) -> Weave
 }
 
 // The end cap.
-fn finish(v: &mut [f32], src: &mut [u32], t: &mut [Index], pass: Pass, r: Round, w: Walk) -> Weave
+pub fn finish(
+    v: &mut [f32],
+    src: &mut [u32],
+    t: &mut [Index],
+    pass: Pass,
+    r: Round,
+    w: Walk,
+) -> Weave
     requires { ⌜ WeaveFits (pass .write) (pass .stroke) r (w .weave) (endBend (pass .stroke) (w .leg) ∷ []) (lent (now v) (now src) (now t)) ⌝ }
     ensures { λ q. ⌜ WeavePasses (pass .write) (pass .stroke) r (endBend (pass .stroke) (w .leg) ∷ []) (w .weave) (lent (now (v .entry)) (now (src .entry)) (now (t .entry))) (lent (now (v .exit)) (now (src .exit)) (now (t .exit))) q ⌝ }
 {

@@ -6,11 +6,11 @@ use Rattle.weave.proofs.pass_kept.Tie as tie
 next-leg-requires : tie.Need-next-leg-requires
 next-leg-requires c κs = search needs
 
-joint-of-requires : tie.Need-joint-of-requires
-joint-of-requires c κs = search needs
+joint-again-requires : tie.Need-joint-again-requires
+joint-again-requires c κs = search needs
 
 pass-bend-requires : tie.Need-pass-bend-requires
-pass-bend-requires c κs = rw (c .before .before .before .joint-of .ensures, c .before .before .before .before .next-leg .ensures) (c .before .before .before .before .before .before .before .before .before .before .before .pre)
+pass-bend-requires c κs = rw (c .before .before .before .joint-again .ensures, c .before .before .before .before .next-leg .ensures) (c .before .before .before .before .before .before .before .before .before .before .before .pre)
 
 same-length : tie.Need-same-length
 same-length c = search needs
@@ -26,14 +26,14 @@ returns c =
     let at6 = c .before .before .before .before .before .before in
     let at10 = at6 .before .before .before .before in
     let at11 = at10 .before in
-    record { leg = at11 .next-leg .ensures; puts = rw (at10 .joint-of .ensures, at11 .next-leg .ensures) at (at6 .pass-bend .ensures) }
+    record { leg = at11 .next-leg .ensures; puts = rw (at10 .joint-again .ensures, at11 .next-leg .ensures) at (at6 .pass-bend .ensures) }
 
 pub pass-kept-spec : {M : Type 1} → statement M
 pass-kept-spec =
     tie.close
     (tie.spec
     next-leg-requires
-    joint-of-requires
+    joint-again-requires
     pass-bend-requires
     same-length
     same-length-2

@@ -1,6 +1,6 @@
 -- `join::record::compute_join_side_positions` meets its contract. Assumes nothing.
-use Rattle.join.specs.Record.{sidePositionsOf}
 use borrow.Author.Needs.{needs}
+use Rattle.join.specs.Record.{sidePositionsOf}
 use Rattle.join.proofs.record.compute_join_side_positions.Statement.{statement}
 use Rattle.join.proofs.record.compute_join_side_positions.Tie as tie
 
@@ -19,12 +19,12 @@ corner-of-requires-2 c κs = search needs
 join-side-requires-2 : tie.Need-join-side-requires-2
 join-side-requires-2 c κs = search needs
 
-inner-join-of-requires : tie.Need-inner-join-of-requires
-inner-join-of-requires c κs = search needs
+worked-requires : tie.Need-worked-requires
+worked-requires c κs = search needs
 
 returns : tie.Need-returns
 unfolding sidePositionsOf
-returns c = rw (c .inner-join-of .ensures, c .before .before .before .join-side2 .ensures, c .before .before .before .before .corner-of2 .ensures, c .before .before .before .before .before .join-side .ensures, c .before .before .before .before .before .before .corner-of .ensures, c .before .before .before .before .before .before .before .before .before .before .before .turn-of .ensures)
+returns c = rw (c .worked .ensures, c .before .join-side2 .ensures, c .before .before .corner-of2 .ensures, c .before .before .before .join-side .ensures, c .before .before .before .before .corner-of .ensures, c .before .before .before .before .before .before .before .before .before .turn-of .ensures)
 
 pub compute-join-side-positions-spec : {M : Type 1} → statement M
 compute-join-side-positions-spec =
@@ -35,5 +35,5 @@ compute-join-side-positions-spec =
     join-side-requires
     corner-of-requires-2
     join-side-requires-2
-    inner-join-of-requires
+    worked-requires
     returns)
