@@ -21,9 +21,9 @@ use Rattle.strip.proofs.Facts.Named.{open-named, closed-named}
 use Rattle.strip.proofs.Facts.Owns.{open-own, closed-own}
 use Rattle.strip.proofs.Facts.Shares.{open-linked, closed-linked}
 use Rattle.triangles.proofs.Having.{in-a, in-b, in-c}
-use Rattle.triangles.specs.Attached.{first, later, Spans}
+use Rattle.triangles.specs.Attached.{first, later, Spans, Covers}
 use Rattle.braid.specs.Weave.{Item, added, strip, woven, Held}
-use Rattle.braid.specs.Round.{ones, Levels, Sound, sideArc, jointItems, onward, startCap, endCap, openItems, closedItems}
+use Rattle.braid.specs.Round.{ones, Levels, sideArc, jointItems, onward, startCap, endCap, openItems, closedItems}
 use Rattle.braid.proofs.Woven.{woven-own, woven-named, woven-joined}
 
 -- the strip of the items
@@ -197,9 +197,9 @@ held-closed ls k j i js =
     js (m + jointCount i) (afterN m i) (afterP m i) on' (λ z. omega arith) (omega arith) (omega arith) w))
 
 -- demand 3 of a run with arcs
-pub open-sound : (ls : Levels) (s e k : ℕ) (j i : EndpointData) (js : List EndpointData)
-    → Sound k (k + vertexCount (j ∷ i ∷ js) + added (openItems ls s e k j i js)) (woven (k + vertexCount (j ∷ i ∷ js)) (openItems ls s e k j i js))
-open-sound ls s e k j i js =
+pub open-covers : (ls : Levels) (s e k : ℕ) (j i : EndpointData) (js : List EndpointData)
+    → Covers k (k + vertexCount (j ∷ i ∷ js) + added (openItems ls s e k j i js)) (woven (k + vertexCount (j ∷ i ∷ js)) (openItems ls s e k j i js))
+open-covers ls s e k j i js =
     let ps : List Item = openItems ls s e k j i js in
     let base = k + vertexCount (j ∷ i ∷ js) in
     let own : AllOwn k base (strip ps) = rw (strip-open ls s e k j i js) (open-own k j (i ∷ js)) in
@@ -210,9 +210,9 @@ open-sound ls s e k j i js =
       joined = woven-joined k base ps own link (held-open ls s e k j i js);
     }
 
-pub closed-sound : (ls : Levels) (k : ℕ) (j i : EndpointData) (js : List EndpointData)
-    → Sound k (k + vertexCount (j ∷ i ∷ js) + added (closedItems ls k j i js)) (woven (k + vertexCount (j ∷ i ∷ js)) (closedItems ls k j i js))
-closed-sound ls k j i js =
+pub closed-covers : (ls : Levels) (k : ℕ) (j i : EndpointData) (js : List EndpointData)
+    → Covers k (k + vertexCount (j ∷ i ∷ js) + added (closedItems ls k j i js)) (woven (k + vertexCount (j ∷ i ∷ js)) (closedItems ls k j i js))
+closed-covers ls k j i js =
     let ps : List Item = closedItems ls k j i js in
     let base = k + vertexCount (j ∷ i ∷ js) in
     let own : AllOwn k base (strip ps) = rw (strip-closed ls k j i js) (closed-own k j i js) in

@@ -7,8 +7,9 @@ use native.Mathlib.Omega.{arith}
 use lib.ListN.{length}
 use Rattle.triangles.specs.Facts.{Own, AllOwn, Names, here, there, shared, Linked}
 use Rattle.triangles.proofs.Having.{in-a, in-b, in-c, in-none}
+use Rattle.triangles.specs.Attached.{Covers}
 use Rattle.braid.specs.Weave.{Item, added, strip, woven, Held}
-use Rattle.braid.specs.Round.{Sound, squareItems}
+use Rattle.braid.specs.Round.{squareItems}
 use Rattle.arc.proofs.Triangles.{pow-some}
 use Rattle.braid.proofs.Woven.{woven-count, woven-own, woven-named, woven-joined}
 use Rattle.braid.proofs.Rounds.{tri, span-ab, span-bc, span-ac, span-later, span-swap}
@@ -65,8 +66,8 @@ square-added l k = omega (arith, pow-some l)
 pub square-tally : (l k base : ℕ) → 2 + length (woven base (squareItems l k)) ≡ 2 ^ suc (suc l)
 square-tally l k base = omega (arith, woven-count base (squareItems l k), ap length (strip-square l k), square-added l k)
 
-pub square-sound : (l k : ℕ) → Sound k (k + 4 + added (squareItems l k)) (woven (k + 4) (squareItems l k))
-square-sound l k =
+pub square-covers : (l k : ℕ) → Covers k (k + 4 + added (squareItems l k)) (woven (k + 4) (squareItems l k))
+square-covers l k =
     let ps : List Item = squareItems l k in
     let own : AllOwn k (k + 4) (strip ps) = rw (strip-square l k) (square-own k) in
     let link : Linked (strip ps) = rw (strip-square l k) (square-linked k) in

@@ -19,13 +19,13 @@ use Rattle.braid.specs.Round.{ones, Levels, sideArc, jointItems, onward,
 use Rattle.braid.proofs.Woven.{woven-count}
 use Rattle.braid.proofs.Rounds.{strip-open, strip-closed}
 
-added-append : (ps qs : List Item) → added (ps ++ qs) ≡ added ps + added qs
+pub added-append : (ps qs : List Item) → added (ps ++ qs) ≡ added ps + added qs
 unfolding added
 added-append [] qs = omega arith
 added-append (one t ∷ ps) qs = added-append ps qs
 added-append (arc k a b ∷ ps) qs = omega (arith, added-append ps qs)
 
-added-ones : (ts : List Tri) → added (ones ts) ≡ 0
+pub added-ones : (ts : List Tri) → added (ones ts) ≡ 0
 unfolding added ones
 added-ones [] = refl
 added-ones (t ∷ ts) = added-ones ts

@@ -1,17 +1,15 @@
 -- A run's items: rule 9's triangles from section to section, with the arcs of W-209 behind them. Assumes nothing.
-use Prim.Native.Nat.{ℕ, _+_, _-_, _^_, _≤_, _<_}
+use Prim.Native.Nat.{ℕ, _+_, _-_, _^_}
 use mathlib.Core.List.{List, [], _∷_, _++_}
 use Rattle.endpoint.specs.Endpoint.{sideCountOf}
 use Rattle.endpoint.specs.declared.EndpointData.{EndpointData}
 use Rattle.endpoint.specs.declared.SidePoints.{SidePoints}
 use Rattle.endpoint.specs.declared.SidePoints.the-variants.{Single, Pair}
 use Rattle.strip.specs.declared.section.Section.{Section}
-use Rattle.triangles.specs.Facts.{AllOwn, Names}
 use Rattle.strip.specs.Joint.{jointCount}
 use Rattle.strip.specs.Section.{beforeOf, afterOf}
 use Rattle.strip.specs.Triangle.{between}
 use Rattle.triangles.specs.Tri.{Tri}
-use Rattle.triangles.specs.Attached.{Joined}
 use Rattle.braid.specs.Weave.{Item, one, arc}
 
 unfoldable pub ones : List Tri → List Item
@@ -65,12 +63,6 @@ sideAdded l (Pair x0 y0 x1 y1) = 2 ^ l - 1
 unfoldable pub jointsAdded : Levels → List EndpointData → ℕ
 jointsAdded ls [] = 0
 jointsAdded ls (j ∷ js) = sideAdded (ls .positive j) (j .positive) + sideAdded (ls .negative j) (j .negative) + jointsAdded ls js
-
--- demand 3 of a run with vertices from lo to below hi
-pub record Sound (lo hi : ℕ) (ts : List Tri) : Type 0 where
-  pub own : AllOwn lo hi ts
-  pub named : (x : ℕ) → lo ≤ x → x < hi → Names x ts
-  pub joined : Joined ts
 
 -- a round empty cap: the square's two triangles, then "arcs a to b, b to c, c to d, d to a" of l levels each
 abbrev pub squareItems : ℕ → ℕ → List Item

@@ -6,7 +6,7 @@ use Rattle.triangles.specs.Tri.{Tri}
 use Rattle.triangles.specs.Attached.{Spans}
 use Rattle.arc.specs.Arc.{arcTriangles}
 
--- a triangle of the strip, or an arc of k levels from a to b; a round cap of detail k is an arc of k + 1 (`cap-arc`)
+-- a triangle of the strip, or an arc of k levels from a to b; a round cap of detail k is an arc of k + 1 levels
 pub data Item : Type 0 where
   one : Tri → Item
   arc : ℕ → ℕ → ℕ → Item

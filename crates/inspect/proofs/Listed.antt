@@ -3,15 +3,18 @@ use Prim.Native.Nat.{ℕ, zero, suc, _+_, _*_, _<_}
 use mathlib.Core.Path.{_≡_, refl, subst}
 use mathlib.Core.Bool.{Bool, true, false, cond}
 use mathlib.Core.List.{List, [], _∷_}
+use mathlib.Core.Logic.{_⊎_, inl, inr}
 use native.Mathlib.Omega.{arith}
 use lib.Dec.{eqb}
 use lib.ListN.{length, getD}
 use borrow.Author.Tests.{eqb-true}
 use Rattle.lists.specs.Over.{flat}
-use Rattle.triangles.specs.Facts.{Own, AllOwn, inTri, Names, shared, Chain, Linked}
+use Rattle.triangles.specs.Attached as triangles
+use Rattle.triangles.specs.Attached.{first, later, Meets, Joined}
+use Rattle.triangles.specs.Facts.{Own, AllOwn, inTri, Names}
 use Rattle.triangles.specs.Tri.{Tri, numbersOf}
 use Rattle.inspect.specs.Faults.{triangleCount, triangleAt}
-use Rattle.inspect.specs.Sound.{Has, Sound, Attached}
+use Rattle.inspect.specs.Sound.{Has, Sound, Held, Attached}
 
 abbrev pub listOf : List Tri → List ℕ
 listOf = flat numbersOf
@@ -42,11 +45,6 @@ own-at lo hi [] own k h = absurd (omega arith)
 own-at lo hi (t ∷ ts) own zero h = rw (at-zero t ts) (own .0)
 own-at lo hi (t ∷ ts) own (suc k) h = rw (at-suc t ts k) (own-at lo hi ts (own .1) k (omega arith))
 
-pub linked-at : (t : Tri) (ts : List Tri) → Chain t ts → (k : ℕ) → k < length ts → shared (triangleAt (listOf (t ∷ ts)) k) (triangleAt (listOf (t ∷ ts)) (suc k)) ≡ 2
-linked-at t [] link k h = absurd (omega arith)
-linked-at t (u ∷ us) link zero h = rw (at-zero t (u ∷ us), at-suc t (u ∷ us) 0, at-zero u us) (link .0)
-linked-at t (u ∷ us) link (suc k) h = rw (at-suc t (u ∷ us) k, at-suc t (u ∷ us) (suc k)) (linked-at u us (link .1) k (omega arith))
-
 -- ---- the first question
 below : (lo hi : ℕ) (ts : List Tri) → AllOwn lo hi ts → (i : ℕ) → i < length (listOf ts) → getD (listOf ts) i 0 < hi
 unfolding flat
@@ -75,8 +73,27 @@ own-sound count ts own named =
       named = λ v h. has v ts (named v h);
     }
 
--- ---- the second
-pub linked-attached : (ts : List Tri) → Linked ts → Attached (listOf ts)
-linked-attached ts link zero low h = absurd (omega arith)
-linked-attached [] link (suc k) low h = absurd (omega (arith, count-list []))
-linked-attached (t ∷ ts) link (suc k) low h = record { by = k; earlier = omega arith; two = linked-at t ts link k (omega (arith, count-list (t ∷ ts))) }
+-- ---- the second: the k-th of ts, behind those seen, meets one of these or is held by an earlier one of ts
+abbrev Sits : List Tri → List Tri → ℕ → Type 0
+Sits seen ts k = Meets (triangleAt (listOf ts) k) seen ⊎ Held (listOf ts) k
+
+-- the last one seen may as well stand in front
+sits-cons : (seen : List Tri) (t : Tri) (ts : List Tri) (k : ℕ) → Sits (t ∷ seen) ts k → Sits seen (t ∷ ts) (suc k)
+sits-cons seen t ts k (inl m) = go (m .has) where
+  go : triangles.Has (m .with) (t ∷ seen) → Sits seen (t ∷ ts) (suc k)
+  go (first e) = inr (record { by = 0; earlier = omega arith; two = rw (at-zero t ts, at-suc t ts k, e) (m .two) })
+  go (later h) = inl (record { with = m .with; has = h; two = rw (at-suc t ts k) (m .two) })
+sits-cons seen t ts k (inr w) = inr (record { by = suc (w .by); earlier = omega (arith, w .earlier); two = rw (at-suc t ts (w .by), at-suc t ts k) (w .two) })
+
+attached-sits : (seen ts : List Tri) → triangles.Attached seen ts → (k : ℕ) → k < length ts → Sits seen ts k
+attached-sits seen [] a k h = absurd (omega arith)
+attached-sits seen (t ∷ ts) a zero h = inl (rw (at-zero t ts) (a .0))
+attached-sits seen (t ∷ ts) a (suc k) h = sits-cons seen t ts k (attached-sits (t ∷ seen) ts (a .1) k (omega arith))
+
+pub joined-attached : (ts : List Tri) → Joined ts → Attached (listOf ts)
+joined-attached ts join zero low h = absurd (omega arith)
+joined-attached [] join (suc k) low h = absurd (omega (arith, count-list []))
+joined-attached (t ∷ ts) join (suc k) low h = go (sits-cons [] t ts k (attached-sits (t ∷ []) ts join k (omega (arith, count-list (t ∷ ts))))) where
+  go : Sits [] (t ∷ ts) (suc k) → Held (listOf (t ∷ ts)) (suc k)
+  go (inl m) = let none : triangles.Has (m .with) [] → ⊥ = elim [ ] in absurd (none (m .has))
+  go (inr w) = w

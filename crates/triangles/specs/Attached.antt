@@ -1,8 +1,8 @@
 -- W-209's last clause of demand 3: "with some earlier triangle of the run". Assumes nothing.
-use Prim.Native.Nat.{ℕ}
+use Prim.Native.Nat.{ℕ, _≤_, _<_}
 use mathlib.Core.Path.{_≡_}
 use mathlib.Core.List.{List, [], _∷_}
-use Rattle.triangles.specs.Facts.{inTri, shared}
+use Rattle.triangles.specs.Facts.{AllOwn, Names, inTri, shared}
 use Rattle.triangles.specs.Tri.{Tri}
 
 -- u is one of the triangles
@@ -32,3 +32,10 @@ pub record Spans (a b : ℕ) (seen : List Tri) : Type 0 where
   pub has : Has on seen
   pub hasA : inTri on a ≡ 1
   pub hasB : inTri on b ≡ 1
+
+-- Demand 3 of a run with vertices from lo to below hi: "each triangle names three different vertices of its run, every vertex is named", and each but the first shares exactly two
+-- vertices "with some earlier triangle of the run"
+pub record Covers (lo hi : ℕ) (ts : List Tri) : Type 0 where
+  pub own : AllOwn lo hi ts
+  pub named : (x : ℕ) → lo ≤ x → x < hi → Names x ts
+  pub joined : Joined ts
