@@ -37,7 +37,7 @@ then-sized f g i x y =
     let z = y (i + length (f i .vertices)) in
     record { vertices = rw length-append (omega (arith, x .vertices, z .vertices)); triangles = rw length-append (omega (arith, x .triangles, z .triangles)) }
 
-arc-even : (k : ℕ) (hub : Hub) (i : ℕ) (a b : End) → Even (2 ^ k - 1) (arcPiece k hub i a b)
+pub arc-even : (k : ℕ) (hub : Hub) (i : ℕ) (a b : End) → Even (2 ^ k - 1) (arcPiece k hub i a b)
 arc-even k hub i a b = record { vertices = omega (arith, arc-length k hub (a .normal) (b .normal)); triangles = omega (arith, arc-count k i (a .vertex .0) (b .vertex .0)) }
 
 cap-even : (k : ℕ) (hub : Hub) (source i : ℕ) (a b : End) → Even (2 ^ suc k - 1) (capPiece k hub source i a b)

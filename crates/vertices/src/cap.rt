@@ -19,7 +19,7 @@ ghost use Rattle.pieces.specs.Piece.{floatsOf, sourcesOf, flatV, flatS, flatT};
 ghost use Rattle.vertices.specs.Cap.{capVertexOf, capPairOf, capVerticesOf, capTrianglesOf};
 
 // A corner: its normal is the direction itself, and its side the source's.
-fn put_corner(
+pub fn put_corner(
     v: &mut [f32],
     src: &mut [u32],
     e: Endpoint,
@@ -75,6 +75,16 @@ fn put_corners(v: &mut [f32], src: &mut [u32], e: Endpoint, h: f32, a: f32)
     );
 }
 
+// (a, b, c) and (a, c, d), where a has the number base.
+pub fn put_cap_triangles(t: &mut [Index], base: VertexId)
+    requires { ⌜ (6 ≤ length (now t)) × (base .0 + 4 ≤ idLimit) ⌝ }
+    ensures { λ _. ⌜ now (t .exit) ≡ over (flatT (capTrianglesOf base)) (now (t .entry)) ⌝ }
+{
+    let c = vertex_after(base, 2);
+    put_triangle(t, base, vertex_after(base, 1), c);
+    put_triangle(&mut t[3..], base, c, vertex_after(base, 3));
+}
+
 // Four vertices, numbered from base, and two triangles.
 pub fn tessellate_empty_square_cap(
     v: &mut [f32],
@@ -92,7 +102,5 @@ pub fn tessellate_empty_square_cap(
     ensures { λ _. ⌜ now (t .exit) ≡ over (flatT (capTrianglesOf base)) (now (t .entry)) ⌝ }
 {
     put_corners(v, src, e, h, a);
-    let c = vertex_after(base, 2);
-    put_triangle(t, base, vertex_after(base, 1), c);
-    put_triangle(&mut t[3..], base, c, vertex_after(base, 3));
+    put_cap_triangles(t, base);
 }

@@ -1,4 +1,4 @@
--- `vertices::cap::tessellate_empty_square_cap` meets its contract. Assumes nothing.
+-- `vertices::cap::put_cap_triangles` meets its contract. Assumes nothing.
 use borrow.Author.Needs.{needs}
 use mathlib.Core.Path.{refl}
 use native.Mathlib.Nat.{le-trans}
@@ -6,11 +6,8 @@ use lib.Dec.{lit≤}
 use Rattle.lists.specs.Over.{flat}
 use Rattle.lists.proofs.Parts.{behind}
 use Rattle.vertices.specs.Cap.{capTrianglesOf}
-use Rattle.vertices.proofs.cap.tessellate_empty_square_cap.Statement.{statement}
-use Rattle.vertices.proofs.cap.tessellate_empty_square_cap.Tie as tie
-
-put-corners-requires : tie.Need-put-corners-requires
-put-corners-requires c κs = search needs
+use Rattle.vertices.proofs.cap.put_cap_triangles.Statement.{statement}
+use Rattle.vertices.proofs.cap.put_cap_triangles.Tie as tie
 
 vertex-after-requires : tie.Need-vertex-after-requires
 vertex-after-requires c κs = search needs
@@ -39,12 +36,6 @@ put-triangle-requires-2 c κs = search needs
 same-length : tie.Need-same-length
 same-length c = search needs
 
-same-length-2 : tie.Need-same-length-2
-same-length-2 c = search needs
-
-same-length-3 : tie.Need-same-length-3
-same-length-3 c = search needs
-
 returns : tie.Need-returns
 unfolding capTrianglesOf flat
 returns c =
@@ -52,16 +43,14 @@ returns c =
     let at-vertex-after2 = at-put-triangle .before in
     let at-vertex-after = at-vertex-after2 .before .before in
     let one = rw (at-vertex-after2 .vertex-after2 .ensures, at-vertex-after .vertex-after .ensures) at (at-put-triangle .put-triangle .ensures) in
-    let two = rw (c .before .before .before .vertex-after3 .ensures, c .before .before .before .before .before .before .before .before .before .before .vertex-after .ensures) at (c .before .before .put-triangle2 .ensures) in
-    let at-put-corners = c .before .before .before .before .before .before .before .before .before .before .before .before .before .before .before in
-    let start = at-put-corners .before .before .before .before .before .before in
-    (at-put-corners .put-corners .ensures .0, (at-put-corners .put-corners .ensures .1, behind _ _ _ _ _ 3 refl (le-trans (lit≤ tt) (start .pre .0 .2)) one two))
+    let two = rw (c .before .before .before .vertex-after3 .ensures, at-vertex-after .vertex-after .ensures) at (c .before .before .put-triangle2 .ensures) in
+    let start = at-vertex-after .before .before in
+    behind _ _ _ _ _ 3 refl (le-trans (lit≤ tt) (start .pre .0)) one two
 
-pub tessellate-empty-square-cap-spec : {M : Type 1} → statement M
-tessellate-empty-square-cap-spec =
+pub put-cap-triangles-spec : {M : Type 1} → statement M
+put-cap-triangles-spec =
     tie.close
     (tie.spec
-    put-corners-requires
     vertex-after-requires
     vertex-after-requires-2
     put-triangle-requires
@@ -71,6 +60,4 @@ tessellate-empty-square-cap-spec =
     vertex-after-requires-3
     put-triangle-requires-2
     same-length
-    same-length-2
-    same-length-3
     returns)

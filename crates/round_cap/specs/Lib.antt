@@ -1,0 +1,2 @@
+-- `Cap` is the round empty cap.
+pub mod Cap
