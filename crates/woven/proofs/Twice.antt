@@ -1,20 +1,23 @@
--- A pass that writes a strip, and one that writes what is woven into it: the second's vertices behind the first's, its triangles over the first's. Assumes nothing.
+-- A pass that writes a strip, and one that writes what is woven into it: the second's vertices behind the first's, its triangles over the first's. Then the second
+-- in the parts of the lists that it is lent. Assumes nothing.
 use Prim.Native.Nat.{ℕ, _+_, _-_, _*_, _≤_}
-use mathlib.Core.Path.{_≡_, refl, sym, ap, _∙_}
-use mathlib.Core.Bool.{Bool, true, false, cond, true≢false}
+use mathlib.Core.Path.{_≡_, refl, ap, _∙_}
+use mathlib.Core.Bool.{Bool, true, false, cond}
 use mathlib.Core.List.{List, [], _∷_, _++_}
-use mathlib.Core.Logic.{_≢_}
 use native.Mathlib.Omega.{arith}
 use borrow.Rule.Slice.PartMut.{midOf, putMid}
 use lib.Ieee.{Float}
-use lib.ListN.{length, length-append, length-drop}
+use lib.ListN.{length, length-append}
+use Rattle.endpoint.specs.Endpoint.{vertexAfter}
 use Rattle.endpoint.specs.declared.VertexId.{VertexId}
-use Rattle.lists.specs.Over.{over, putAt, flat}
-use Rattle.lists.proofs.Laws.{put-start, length-put, put-append, flat-append, length-flat}
-use Rattle.lists.proofs.Parts.{part-is, put-part}
-use Rattle.pieces.specs.Piece.{floatsOf, sourcesOf, flatV, flatS, flatT, Piece, behind, from, Lists, lent, Fits, Passes}
+use Rattle.lists.specs.Over.{over, putAt}
+use Rattle.lists.proofs.Laws.{put-start, length-put, put-flat}
+use Rattle.lists.proofs.Parts.{part-is, put-is}
+use Rattle.pieces.specs.Piece.{floatsOf, sourcesOf, flatS, flatT, Piece, behind, from, Lists, lent, laid, Fits, Passes}
 use Rattle.pieces.specs.declared.Place.{Place}
 use Rattle.pieces.proofs.Pieces.{length-flatT}
+use Rattle.pieces.proofs.Pieces as pieces
+use Rattle.woven.specs.Woven.{overStrip}
 
 -- a list written over another that is no longer
 pub over-again : {A : Type 0} (xs ys l : List A) → length ys ≤ length xs → over xs (over ys l) ≡ over xs l
@@ -25,81 +28,81 @@ over-again (x ∷ xs) [] l h = refl
 over-again (x ∷ xs) (y ∷ ys) [] h = refl
 over-again {A} (x ∷ xs) (y ∷ ys) (z ∷ l) h = ap (λ (m : List A). x ∷ m) (over-again xs ys l (omega arith))
 
--- the part of a list from c on, rewritten, where what stands before it was written
-flat-behind : {A B : Type 0} (f : A → List B) (m : ℕ) (size : (x : A) → length (f x) ≡ m) (xs ys : List A) (l l1 l2 : List B) (c : ℕ) → c ≡ m * length xs → c ≤ length l
-    → l1 ≡ putAt 0 (flat f xs) l → l2 ≡ putAt 0 (flat f ys) (midOf c (length l1 - c) l1) → putMid c (length l1 - c) l1 l2 ≡ putAt 0 (flat f (xs ++ ys)) l
-flat-behind f m size xs ys l l1 l2 c e h e1 e2 =
-    let k : length l1 ≡ length l = ap length e1 ∙ length-put 0 (flat f xs) l in
-    let r : c ≤ length l1 = omega arith in
-    let g : l2 ≡ over (flat f ys) (midOf c (length l1 - c) l1) = e2 ∙ put-start (flat f ys) (midOf c (length l1 - c) l1) in
-    let q : c ≡ 0 + length (flat f xs) = omega (arith, length-flat f m size xs) in
-    put-part l1 l2 (flat f ys) c r g ∙ rw (e1, q, flat-append f xs ys) (put-append 0 (flat f xs) (flat f ys) l)
-
-part-room : {A : Type 0} (xs : List A) (a n : ℕ) → a + n ≤ length xs → n ≤ length (midOf a (length xs - a) xs)
-part-room xs a n h = let r : a ≤ length xs = omega arith in rw (part-is xs a r) (simp length-drop (omega arith))
-
 -- a piece whose triangles are the second's and whose vertices are both's
 abbrev pub wholeOf : Piece → Piece → Piece
 wholeOf p q = record { vertices = p .vertices ++ q .vertices; triangles = q .triangles }
 
-module _ (base arcs : VertexId) (p q : Piece) (is : arcs .0 ≡ base .0 + length (p .vertices)) (more : length (p .triangles) ≤ length (q .triangles)) where
+module _ (base : VertexId) (p q : Piece) (more : length (p .triangles) ≤ length (q .triangles)) where
   pub first-fits : {write : Bool} {l : Lists} → Fits write (from base) (wholeOf p q) l → Fits write (from base) p l
   first-fits h =
       let a = length-append (p .vertices) (q .vertices) in
       record { numbers = omega (arith, h .numbers); faces = omega (arith, h .faces); vertices = λ w. omega (arith, h .vertices w); sources = λ w. omega (arith, h .sources w); triangles = λ w. omega (arith, h .triangles w) }
 
-  placed : (k1 k : Place) → k1 ≡ behind (from base) p → k ≡ behind (from arcs) q
-      → _≡_ {A = Place} (record { base = base; vertices = k1 .vertices + k .vertices; triangles = k .triangles }) (behind (from base) (wholeOf p q))
-  placed k1 k e1 e2 =
-      let n : 0 + length (p .vertices) + (0 + length (q .vertices)) ≡ 0 + (length (p .vertices) + length (q .vertices)) = omega arith in
-      rw (e1, e2, length-append (p .vertices) (q .vertices), n)
+  put-twice : (t : List ℕ) → putAt 0 (flatT (q .triangles)) (putAt 0 (flatT (p .triangles)) t) ≡ putAt 0 (flatT (q .triangles)) t
+  put-twice t =
+      let m = length-flatT (q .triangles) in
+      let n = length-flatT (p .triangles) in
+      rw (put-start (flatT (q .triangles)) (putAt 0 (flatT (p .triangles)) t), put-start (flatT (p .triangles)) t, put-start (flatT (q .triangles)) t) (over-again (flatT (q .triangles)) (flatT (p .triangles)) t (omega arith))
 
-  module _ {v v1 : List Float} {s s1 t t1 : List ℕ} {k1 : Place} where
-    -- where the second pass is lent its parts from
-    pub lent-from : (write : Bool) → Fits write (from base) (wholeOf p q) (lent v s t) → Passes write (from base) p (lent v s t) (lent v1 s1 t1) k1
-        → (b : ℕ) → b ≡ cond write (k1 .vertices) 0 → (5 * b ≤ length v1) × (b ≤ length s1)
-    lent-from true h e b eb =
-        let a = length-append (p .vertices) (q .vertices) in
-        let n : b ≡ length (p .vertices) = eb ∙ ap (λ (k : Place). k .vertices) (e .place) ∙ omega arith in
-        let x : length v1 ≡ length v = ap (λ (l : Lists). length (l .vertices)) (e .lists refl) ∙ length-put 0 (flatV (p .vertices)) v in
-        let y : length s1 ≡ length s = ap (λ (l : Lists). length (l .sources)) (e .lists refl) ∙ length-put 0 (flatS (p .vertices)) s in
-        (omega (arith, h .vertices refl), omega (arith, h .sources refl))
-    lent-from false h e b eb = (omega arith, omega arith)
+  put-sources : (s : List ℕ) → putAt (0 + length (p .vertices)) (flatS (q .vertices)) (putAt 0 (flatS (p .vertices)) s) ≡ putAt 0 (flatS (p .vertices ++ q .vertices)) s
+  put-sources s =
+      let a : 1 * (0 + length (p .vertices)) ≡ 0 + length (p .vertices) = omega arith in
+      rw a at (put-flat sourcesOf 1 (λ v. refl) 0 (p .vertices) (q .vertices) s)
 
-    pub second-fits : (write : Bool) → Fits write (from base) (wholeOf p q) (lent v s t) → Passes write (from base) p (lent v s t) (lent v1 s1 t1) k1
-        → (b : ℕ) → b ≡ cond write (k1 .vertices) 0 → Fits write (from arcs) q (lent (midOf (5 * b) (length v1 - 5 * b) v1) (midOf b (length s1 - b) s1) t1)
-    second-fits true h e b eb =
-        let a = length-append (p .vertices) (q .vertices) in
-        let n : b ≡ length (p .vertices) = eb ∙ ap (λ (k : Place). k .vertices) (e .place) ∙ omega arith in
-        let x : length v1 ≡ length v = ap (λ (l : Lists). length (l .vertices)) (e .lists refl) ∙ length-put 0 (flatV (p .vertices)) v in
-        let y : length s1 ≡ length s = ap (λ (l : Lists). length (l .sources)) (e .lists refl) ∙ length-put 0 (flatS (p .vertices)) s in
-        let z : length t1 ≡ length t = ap (λ (l : Lists). length (l .triangles)) (e .lists refl) ∙ length-put 0 (flatT (p .triangles)) t in
-        let c = part-room v1 (5 * b) (5 * length (q .vertices)) (omega (arith, h .vertices refl)) in
-        let d = part-room s1 b (length (q .vertices)) (omega (arith, h .sources refl)) in
-        record { numbers = omega (arith, h .numbers); faces = omega (arith, h .faces); vertices = λ _. omega (arith, c); sources = λ _. omega (arith, d); triangles = λ _. omega (arith, h .triangles refl) }
-    second-fits false h e b eb =
-        let a = length-append (p .vertices) (q .vertices) in
-        let no : false ≢ true = λ w. true≢false (sym w) in
-        record { numbers = omega (arith, h .numbers); faces = omega (arith, h .faces); vertices = λ w. absurd (no w); sources = λ w. absurd (no w); triangles = λ w. absurd (no w) }
+  laid-twice : (l : Lists) → laid (overStrip base (0 + length (p .vertices))) q (laid (from base) p l) ≡ laid (from base) (wholeOf p q) l
+  laid-twice l = rw (put-flat floatsOf 5 (λ v. refl) 0 (p .vertices) (q .vertices) (l .vertices), put-sources (l .sources), put-twice (l .triangles))
 
-    pub twice : (write : Bool) → Fits write (from base) (wholeOf p q) (lent v s t) → Passes write (from base) p (lent v s t) (lent v1 s1 t1) k1
-        → (b : ℕ) → b ≡ cond write (k1 .vertices) 0 → (v2 : List Float) (s2 t2 : List ℕ) (k : Place)
-        → Passes write (from arcs) q (lent (midOf (5 * b) (length v1 - 5 * b) v1) (midOf b (length s1 - b) s1) t1) (lent v2 s2 t2) k
-        → Passes write (from base) (wholeOf p q) (lent v s t) (lent (putMid (5 * b) (length v1 - 5 * b) v1 v2) (putMid b (length s1 - b) s1 s2) t2)
-        (record { base = base; vertices = k1 .vertices + k .vertices; triangles = k .triangles })
-    twice true h e b eb v2 s2 t2 k f =
+  placed : behind (overStrip base (0 + length (p .vertices))) q ≡ behind (from base) (wholeOf p q)
+  placed =
+      let n : 0 + length (p .vertices) + length (q .vertices) ≡ 0 + (length (p .vertices) + length (q .vertices)) = omega arith in
+      rw (length-append (p .vertices) (q .vertices), n)
+
+  module _ {write : Bool} {l l1 : Lists} {k1 : Place} (e : Passes write (from base) p l l1 k1) where
+    pub second-fits : Fits write (from base) (wholeOf p q) l → Fits write (overStrip base (k1 .vertices)) q l1
+    second-fits h =
         let a = length-append (p .vertices) (q .vertices) in
-        let n : b ≡ length (p .vertices) = eb ∙ ap (λ (j : Place). j .vertices) (e .place) ∙ omega arith in
-        let g = e .lists refl in
-        let i = f .lists refl in
-        let x = flat-behind floatsOf 5 (λ u. refl) (p .vertices) (q .vertices) v v1 v2 (5 * b) (omega arith) (omega (arith, h .vertices refl)) (ap (λ (l : Lists). l .vertices) g) (ap (λ (l : Lists). l .vertices) i) in
-        let y = flat-behind sourcesOf 1 (λ u. refl) (p .vertices) (q .vertices) s s1 s2 b (omega arith) (omega (arith, h .sources refl)) (ap (λ (l : Lists). l .sources) g) (ap (λ (l : Lists). l .sources) i) in
-        let z : t2 ≡ putAt 0 (flatT (q .triangles)) t = ap (λ (l : Lists). l .triangles) i ∙ rw (ap (λ (l : Lists). l .triangles) g) (over-twice t) in
-        record { place = placed k1 k (e .place) (f .place); lists = λ _. rw (x, y, z) }
-      where
-        over-twice : (t : List ℕ) → putAt 0 (flatT (q .triangles)) (putAt 0 (flatT (p .triangles)) t) ≡ putAt 0 (flatT (q .triangles)) t
-        over-twice t =
-            let m = length-flatT (q .triangles) in
-            let n = length-flatT (p .triangles) in
-            rw (put-start (flatT (q .triangles)) (putAt 0 (flatT (p .triangles)) t), put-start (flatT (p .triangles)) t, put-start (flatT (q .triangles)) t) (over-again (flatT (q .triangles)) (flatT (p .triangles)) t (omega arith))
-    twice false h e b eb v2 s2 t2 k f = record { place = placed k1 k (e .place) (f .place); lists = λ w. absurd (true≢false (sym w)) }
+        rw (e .place) (record {
+          numbers = omega (arith, h .numbers);
+          faces = omega (arith, h .faces);
+          vertices = λ w. rw (e .lists w, length-put) (omega (arith, h .vertices w));
+          sources = λ w. rw (e .lists w, length-put) (omega (arith, h .sources w));
+          triangles = λ w. rw (e .lists w, length-put) (omega (arith, h .triangles w));
+        })
+
+    pub twice : {l2 : Lists} {k : Place} → Passes write (overStrip base (k1 .vertices)) q l1 l2 k → Passes write (from base) (wholeOf p q) l l2 k
+    twice f = record {
+      place = f .place ∙ rw (e .place) placed;
+      lists = λ w. f .lists w ∙ rw (e .place, e .lists w) (laid-twice l);
+    }
+
+-- ---- the parts that the second pass is lent: the vertices' from the place b on, and all triangles
+module _ (base : VertexId) (n : ℕ) (q : Piece) (v : List Float) (s t : List ℕ) where
+  abbrev parts : ℕ → Lists
+  parts b = lent (midOf (5 * b) (length v - 5 * b) v) (midOf b (length s - b) s) t
+
+  abbrev whole : ℕ → List Float → List ℕ → List ℕ → Lists
+  whole b v2 s2 t2 = lent (putMid (5 * b) (length v - 5 * b) v v2) (putMid b (length s - b) s s2) t2
+
+  all-lent : midOf 0 (length t - 0) t ≡ t
+  all-lent = part-is t 0 (omega arith)
+
+  all-back : (t2 : List ℕ) → putMid 0 (length t - 0) t t2 ≡ t2
+  all-back t2 = put-is t t2 0 (omega arith)
+
+  pub parts-from : (write : Bool) → Fits write (overStrip base n) q (lent v s t) → (b : ℕ) → b ≡ cond write n 0 → (5 * b ≤ length v) × (b ≤ length s)
+  parts-from true h b e = (omega (arith, h .vertices refl), omega (arith, h .sources refl))
+  parts-from false h b e = (omega arith, omega arith)
+
+  pub parts-fit : (write : Bool) → Fits write (overStrip base n) q (lent v s t) → (b : ℕ) → b ≡ cond write n 0 → Fits write (from (vertexAfter base n)) q (parts b)
+  parts-fit true h b e = rw e (rw all-lent at (pieces.parts-fit (overStrip base n) q v s t true h))
+  parts-fit false h b e = rw e (rw all-lent at (pieces.parts-fit (overStrip base n) q v s t false h))
+
+  pub parts-pass : (write : Bool) → Fits write (overStrip base n) q (lent v s t) → (b : ℕ) → b ≡ cond write n 0 → (v2 : List Float) (s2 t2 : List ℕ) (k : Place)
+      → Passes write (from (vertexAfter base n)) q (parts b) (lent v2 s2 t2) k
+      → Passes write (overStrip base n) q (lent v s t) (whole b v2 s2 t2) (record { base = base; vertices = n + k .vertices; triangles = k .triangles })
+  parts-pass true h b e v2 s2 t2 k f =
+      let z : 0 + k .triangles ≡ k .triangles = omega arith in
+      rw e (rw (all-back t2, z) at (pieces.parts-put (overStrip base n) q v s t true h v2 s2 t2 k (rw all-lent (rw e at f))))
+  parts-pass false h b e v2 s2 t2 k f =
+      let z : 0 + k .triangles ≡ k .triangles = omega arith in
+      rw e (rw (all-back t2, z) at (pieces.parts-put (overStrip base n) q v s t false h v2 s2 t2 k (rw all-lent (rw e at f))))

@@ -1,4 +1,3 @@
--- `Woven` is what a round run draws, `Cap` the round empty cap; `Counts` what arcs add.
+-- `Woven` is what a round run draws; `Counts` what arcs add.
 pub mod Woven
-pub mod Cap
 pub mod Counts
