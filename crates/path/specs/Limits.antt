@@ -1,5 +1,5 @@
 -- How long the lists of an accepted path are. Assumes nothing.
-use Prim.Native.Nat.{ℕ, _*_}
+use Prim.Native.Nat.{ℕ, _*_, _^_}
 
 -- "Raise 4,096 verbs to 65,536" (W-205)
 abbrev pub verbLimit : ℕ
@@ -9,10 +9,14 @@ verbLimit = 65536
 abbrev pub coordLimit : ℕ
 coordLimit = 2 * verbLimit
 
--- the most vertices, and the most triangles, that a point brings (run's `run-within`)
-abbrev pub mostToPoint : ℕ
-mostToPoint = 4
+-- the most vertices, and the most triangles, that a point brings where arcs are so many levels deep, none where nothing is round (run's `run-few`)
+abbrev pub mostToPoint : ℕ → ℕ
+mostToPoint level = 4 * 2 ^ level
+
+-- "an arc detail k from 0 to 6" (W-209)
+abbrev pub levelLimit : ℕ
+levelLimit = 6
 
 -- "State the counts' bounds once over the verb limit" (W-205): the most of either that a mesh has (mesh's `counts-limited`)
 abbrev pub countLimit : ℕ
-countLimit = mostToPoint * verbLimit
+countLimit = mostToPoint levelLimit * verbLimit

@@ -1,4 +1,3 @@
--- `Run` is what a run draws, `Round` the way round of a closed one; `Facts` is demand 3 of a run.
+-- `Run` is what a run draws; `Facts` is demand 3's numbers of a run.
 pub mod Run
-pub mod Round
 pub mod Facts

@@ -1,23 +1,27 @@
 // A run of a path, drawn at the start of the lists that are lent (rule 2): a strip along its joints, an empty cap, or nothing.
+mod alone;
+
+use crate::alone::draw_alone;
 use along::At;
 use along::Pass;
 use along::strips::pass_closed;
 use along::strips::pass_open;
-use endpoint::Endpoint;
-use endpoint::VertexId;
+use fans::Round;
 use kept::endpoint_at;
 use kept::first_far;
 use kept::kept_end;
-use options::LineCap;
 use options::Stroke;
+use options::is_round;
+use options::level_of;
+use options::rounds_caps;
+use options::rounds_joins;
 use pieces::Index;
 use pieces::Place;
 use strip::Strip;
-use strip::put_close;
-use vertices::cap::tessellate_empty_square_cap;
+use woven::close_round;
+use woven::weave_behind;
 ghost use mathlib.Core.Bool.{true, false};
 ghost use mathlib.Core.Path.{_≡_};
-ghost use mathlib.Core.List.{[], _∷_};
 ghost use Prim.Native.Nat.{_+_, _≤_, _<_};
 ghost use lib.ListN.{length};
 ghost use Rattle.endpoint.specs.Endpoint.{idLimit};
@@ -25,10 +29,10 @@ ghost use Rattle.joints.specs.Joint.{jointsOf};
 ghost use Rattle.kept.specs.Kept.{keptPoints};
 ghost use Rattle.kept.specs.Looks.{runFrom};
 ghost use Rattle.kept.specs.Points.{endpointsOf};
-ghost use Rattle.pieces.specs.Piece.{lent, from, Lays};
+ghost use Rattle.pieces.specs.Piece.{lent};
 ghost use Rattle.along.specs.Strips.{Within};
-ghost use Rattle.run.specs.Run.{emptyCap, along, drawsCap, shapeOfKept, shapeOf, shapePiece, DrawFits, Draws};
-ghost use Rattle.run.specs.Round.{Rounds, roundedOf};
+ghost use Rattle.strip.specs.Strip.{startOf, StripFits, StripPasses};
+ghost use Rattle.run.specs.Run.{stripShape, roundOf, shapeOfKept, shapeOf, DrawFits, Draws};
 
 // What rule 2 asks of a run: whether its end is closed, and whether it has a line.
 pub struct Ends {
@@ -36,20 +40,21 @@ pub struct Ends {
     pub lines: bool,
 }
 
-// A closed run goes round to its first section.
-fn close_round(t: &mut [Index], s: Strip, write: bool)
-    requires { ⌜ (write ≡ true → Rounds s (now t)) ⌝ }
-    ensures { λ _. ⌜ (write ≡ true → now (t .exit) ≡ roundedOf s (now (t .entry))) ⌝ }
+// What of a stroke is round, and how deep its arcs go.
+fn round_of(o: Stroke) -> Round
+    ensures { λ r. ⌜ r ≡ roundOf o ⌝ }
 {
-    if write {
-        let place = s.place;
-        let at = 3 * place.triangles;
-        put_close(&mut t[at..], s);
+    let j = o.line_join;
+    let c = o.cap;
+    Round {
+        joins: rounds_joins(j),
+        caps: rounds_caps(c),
+        detail: level_of(o),
     }
 }
 
-// A closed run has as many triangles as vertices.
-fn draw_closed(
+// The strip of a run of two kept points or more, the second at i. It is passed along here alone, so that the compiler has the whole of a point's work in one function.
+fn pass_strip(
     v: &mut [f32],
     src: &mut [u32],
     t: &mut [Index],
@@ -57,79 +62,49 @@ fn draw_closed(
     p: &[f32],
     at: At,
     i: usize,
+    closed: bool,
+) -> Strip
+    requires { ⌜ Within (now p) (at .endpoint .0) i ⌝ }
+    requires { ⌜ StripFits (pass .write) (startOf (at .vertex)) (jointsOf closed (pass .stroke) (runFrom (pass .stroke .near) (now p) (at .endpoint .0) i)) (lent (now v) (now src) (now t)) ⌝ }
+    ensures { λ r. ⌜ StripPasses (pass .write) (jointsOf closed (pass .stroke) (runFrom (pass .stroke .near) (now (p .entry)) (at .endpoint .0) i)) (startOf (at .vertex)) (lent (now (v .entry)) (now (src .entry)) (now (t .entry))) (lent (now (v .exit)) (now (src .exit)) (now (t .exit))) r ⌝ }
+{
+    if closed {
+        return pass_closed(v, src, t, pass, p, at, i);
+    }
+    pass_open(v, src, t, pass, p, at, i)
+}
+
+// A run of two kept points or more: its strip, and what is woven in where it is round. A closed run has as many triangles as vertices.
+fn draw_strip(
+    v: &mut [f32],
+    src: &mut [u32],
+    t: &mut [Index],
+    pass: Pass,
+    p: &[f32],
+    at: At,
+    i: usize,
+    closed: bool,
 ) -> Place
     requires { ⌜ Within (now p) (at .endpoint .0) i ⌝ }
-    requires { ⌜ DrawFits pass true (at .vertex) (along (jointsOf true (pass .stroke) (runFrom (pass .stroke .near) (now p) (at .endpoint .0) i))) (lent (now v) (now src) (now t)) ⌝ }
-    ensures { λ r. ⌜ Draws pass true (at .vertex) (along (jointsOf true (pass .stroke) (runFrom (pass .stroke .near) (now (p .entry)) (at .endpoint .0) i))) (lent (now (v .entry)) (now (src .entry)) (now (t .entry))) (lent (now (v .exit)) (now (src .exit)) (now (t .exit))) r ⌝ }
+    requires { ⌜ DrawFits pass closed (at .vertex) (stripShape closed (pass .stroke) (runFrom (pass .stroke .near) (now p) (at .endpoint .0) i)) (lent (now v) (now src) (now t)) ⌝ }
+    ensures { λ r. ⌜ Draws pass closed (at .vertex) (stripShape closed (pass .stroke) (runFrom (pass .stroke .near) (now (p .entry)) (at .endpoint .0) i)) (lent (now (v .entry)) (now (src .entry)) (now (t .entry))) (lent (now (v .exit)) (now (src .exit)) (now (t .exit))) r ⌝ }
 {
-    let s = pass_closed(v, src, t, pass, p, at, i);
-    close_round(t, s, pass.write);
+    let s = pass_strip(v, src, t, pass, p, at, i, closed);
     let end = s.place;
-    let base = end.base;
-    Place {
-        base,
-        vertices: end.vertices,
-        triangles: end.vertices,
+    if is_round(pass.stroke) {
+        let r = round_of(pass.stroke);
+        return weave_behind(v, src, t, pass, r, p, at, i, closed, end.vertices);
     }
-}
-
-// Whether a run of one kept point draws the empty cap.
-fn draws_cap(o: Stroke, ends: Ends) -> bool
-    ensures { λ r. ⌜ r ≡ drawsCap (o .cap) (ends .closed) (ends .lines) ⌝ }
-{
-    let cap = o.cap;
-    match cap {
-        LineCap::Butt => false,
-        LineCap::Square => ends.closed | ends.lines,
-    }
-}
-
-// The empty cap at a point, where the pass writes.
-fn lay_empty_cap(
-    v: &mut [f32],
-    src: &mut [u32],
-    t: &mut [Index],
-    pass: Pass,
-    p: Endpoint,
-    base: VertexId,
-)
-    requires { ⌜ p .id .0 < idLimit ⌝ }
-    requires { ⌜ DrawFits pass false base (emptyCap p) (lent (now v) (now src) (now t)) ⌝ }
-    ensures { λ _. ⌜ Lays (pass .write) (from base) (shapePiece (pass .stroke) false base (emptyCap p)) (lent (now (v .entry)) (now (src .entry)) (now (t .entry))) (lent (now (v .exit)) (now (src .exit)) (now (t .exit))) ⌝ }
-{
-    let o = pass.stroke;
-    if pass.write {
-        tessellate_empty_square_cap(v, src, t, base, p, o.half_width, 0.0);
-    }
-}
-
-// A run of one kept point.
-fn draw_alone(
-    v: &mut [f32],
-    src: &mut [u32],
-    t: &mut [Index],
-    pass: Pass,
-    p: Endpoint,
-    base: VertexId,
-    ends: Ends,
-) -> Place
-    requires { ⌜ p .id .0 < idLimit ⌝ }
-    requires { ⌜ DrawFits pass (ends .closed) base (shapeOfKept (pass .stroke) (ends .closed) (ends .lines) (p ∷ [])) (lent (now v) (now src) (now t)) ⌝ }
-    ensures { λ r. ⌜ Draws pass (ends .closed) base (shapeOfKept (pass .stroke) (ends .closed) (ends .lines) (p ∷ [])) (lent (now (v .entry)) (now (src .entry)) (now (t .entry))) (lent (now (v .exit)) (now (src .exit)) (now (t .exit))) r ⌝ }
-{
-    if draws_cap(pass.stroke, ends) {
-        lay_empty_cap(v, src, t, pass, p, base);
+    if closed {
+        close_round(t, end, s, pass.write);
+        let base = end.base;
         return Place {
             base,
-            vertices: 4,
-            triangles: 2,
+            vertices: end.vertices,
+            triangles: end.vertices,
         };
     }
-    Place {
-        base,
-        vertices: 0,
-        triangles: 0,
-    }
+    end
 }
 
 // The points of p, none of which is dropped on closing.
@@ -152,11 +127,7 @@ fn draw_kept(
         let alone = endpoint_at(p, at.endpoint, 0);
         return draw_alone(v, src, t, pass, alone, at.vertex, ends);
     }
-    if ends.closed {
-        return draw_closed(v, src, t, pass, p, at, i);
-    }
-    let s = pass_open(v, src, t, pass, p, at, i);
-    s.place
+    draw_strip(v, src, t, pass, p, at, i, ends.closed)
 }
 
 // A run whose coordinates are p. The result is the place behind it.

@@ -8,11 +8,12 @@ use lib.ListN.{length, length-append}
 use Rattle.endpoint.specs.declared.Endpoint.{Endpoint}
 use Rattle.pieces.specs.Piece.{joined, behind, nextVertex}
 use Rattle.pieces.specs.declared.Place.{Place}
+use Rattle.options.specs.Options.{levelOf}
 use Rattle.options.specs.declared.Stroke.{Stroke}
 use Rattle.path.specs.Limits.{mostToPoint}
 use Rattle.path.specs.Runs.{Run, pointsOf}
 use Rattle.run.specs.Run.{shapeCount}
-use Rattle.run.proofs.Facts.{run-within, run-anywhere}
+use Rattle.run.proofs.Facts.{run-few, run-anywhere}
 use Rattle.run.proofs.Whole.{length-shape}
 use Rattle.runs.specs.Runs.{Tally, drawnOf, meshVertices, meshCount, meshTriangles, meshPiece, meshCounts}
 
@@ -48,20 +49,23 @@ module _ (o : Stroke) where
       let s = drawnOf o r in
       simp length-append (omega (arith, run-anywhere o (r .closed) base (r .points), triangles-anywhere (base + shapeCount s) rs, triangles-anywhere (0 + shapeCount s) rs))
 
--- ---- bounds, in one place: so many vertices to a point, no more triangles than vertices
-pub record Bounded (n : ℕ) (c : Tally) : Type 0 where
-  pub vertices : c .vertices ≤ mostToPoint * n
+-- ---- bounds, in one place: so many vertices to a point by the arcs' levels, no more triangles than vertices
+pub record Bounded (level n : ℕ) (c : Tally) : Type 0 where
+  pub vertices : c .vertices ≤ mostToPoint level * n
   pub triangles : c .triangles ≤ c .vertices
 
-pub runs-bounded : (o : Stroke) (rs : List (Run Endpoint)) → Bounded (length (pointsOf rs)) (meshCounts o rs)
+both-few : (m a b v w : ℕ) → v ≤ m * a → w ≤ m * b → v + w ≤ m * (a + b)
+both-few m a b v w h g = omega arith
+
+pub runs-bounded : (o : Stroke) (rs : List (Run Endpoint)) → Bounded (levelOf o) (length (pointsOf rs)) (meshCounts o rs)
 unfolding meshCount meshTriangles pointsOf
 runs-bounded o [] = record { vertices = omega arith; triangles = omega arith }
 runs-bounded o (r ∷ rs) =
     let b = runs-bounded o rs in
-    let w = run-within o (r .closed) 0 (r .points) in
+    let w = run-few o (r .closed) 0 (r .points) in
     let base = 0 + shapeCount (drawnOf o r) in
     record {
-      vertices = simp length-append (omega (arith, b .vertices, w .vertices));
+      vertices = simp length-append (both-few (mostToPoint (levelOf o)) (length (r .points)) (length (pointsOf rs)) (shapeCount (drawnOf o r)) (meshCount o rs) (w .vertices) (b .vertices));
       triangles = simp length-append (omega (arith, b .triangles, w .triangles, triangles-anywhere o base rs));
     }
 

@@ -13,7 +13,8 @@ use pieces::Index;
 use pieces::Place;
 use pieces::next_vertex;
 use run::draw_run;
-ghost use mathlib.Core.Bool.{false, cond};
+use woven::place_of;
+ghost use mathlib.Core.Bool.{false};
 ghost use mathlib.Core.Path.{_≡_};
 ghost use Rattle.path.specs.Verbs.{names};
 ghost use Rattle.pieces.specs.Piece.{lent, Fits, Passes};
@@ -21,16 +22,6 @@ ghost use Rattle.kept.specs.Points.{endpointsOf};
 ghost use Rattle.runs.specs.Runs.{runsOf, meshPiece};
 ghost use Rattle.runs.specs.Cursor.{undrawn, endedOf};
 ghost use Rattle.runs.specs.Passes.{Paired, Inside};
-
-// Where a pass that writes goes on; one that only counts is lent no places.
-fn place_of(write: bool, place: usize) -> usize
-    ensures { λ r. ⌜ r ≡ cond write place 0 ⌝ }
-{
-    if write {
-        return place;
-    }
-    0
-}
 
 // The run that a verb ends is drawn, in the parts of the lists that begin where the last run ended. Two passes call it, so that it is a call of
 // its own to the compiler, and a verb that names a point costs neither of them one.
