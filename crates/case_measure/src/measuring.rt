@@ -1,4 +1,4 @@
-// `measure WIDTH LIMIT JOIN CAP MERGE VERBS COORDS`, answered `measure NUMBER PLACE VERTICES TRIANGLES`.
+// `measure WIDTH LIMIT JOIN CAP MERGE DETAIL VERBS COORDS`, answered `measure NUMBER PLACE VERTICES TRIANGLES`.
 use case_mesh::front::read_options;
 use case_mesh::path_words::COORD_ROOM;
 use case_mesh::path_words::VERB_ROOM;

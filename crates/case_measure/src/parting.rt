@@ -1,4 +1,4 @@
-// `part WIDTH LIMIT JOIN CAP MERGE RUN VERTEXLEN VERBS COORDS`, answered `part NUMBER PLACE START LIST`.
+// `part WIDTH LIMIT JOIN CAP MERGE DETAIL RUN VERTEXLEN VERBS COORDS`, answered `part NUMBER PLACE START LIST`.
 use case_answers::lent::fill_floats;
 use case_mesh::front::SOURCE_ROOM;
 use case_mesh::front::TRIANGLE_ROOM;

@@ -1,4 +1,4 @@
-// `WIDTH LIMIT JOIN CAP MERGE VERTEXLEN SOURCELEN TRIANGLELEN`: the words of a line before its path.
+// `WIDTH LIMIT JOIN CAP MERGE DETAIL VERTEXLEN SOURCELEN TRIANGLELEN`: the words of a line before its path.
 use lines::floats::read;
 use lines::numbers::read_up_to;
 use lines::words::Place;
@@ -48,7 +48,7 @@ pub fn read_front(line: &[u8], place: Place) -> Front
     }
 }
 
-// A join or a cap that the call refuses is in form, as far as it is a byte.
+// A join, a cap or a detail that the call refuses is in form, as far as it is a byte.
 pub fn read_options(line: &[u8], place: Place) -> OptionsRead {
     let width = read(line, place);
     let after_width = width.rest;
@@ -59,7 +59,9 @@ pub fn read_options(line: &[u8], place: Place) -> OptionsRead {
     let cap = read_up_to(line, after_join, 255);
     let after_cap = cap.rest;
     let merge = read(line, after_cap);
-    let rest = merge.rest;
+    let after_merge = merge.rest;
+    let detail = read_up_to(line, after_merge, 255);
+    let rest = detail.rest;
     OptionsRead {
         options: Options {
             width: width.value,
@@ -67,6 +69,7 @@ pub fn read_options(line: &[u8], place: Place) -> OptionsRead {
             line_join: join.value as u32,
             cap: cap.value as u32,
             merge_range: merge.value,
+            detail: detail.value as u32,
         },
         rest,
     }

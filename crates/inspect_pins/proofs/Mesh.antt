@@ -10,12 +10,12 @@ use Rattle.lists.specs.Over.{flat}
 use Rattle.refusals.specs.Numbers.{verdict, notAttached}
 use Rattle.refusals.specs.declared.Verdict.{Verdict}
 use Rattle.endpoint.specs.declared.Endpoint.{Endpoint}
+use Rattle.triangles.specs.Attached.{Covers}
 use Rattle.triangles.specs.Tri.{Tri}
 use Rattle.options.specs.declared.Options.{Options}
 use Rattle.options.specs.declared.Stroke.{Stroke}
 use Rattle.path.specs.Runs.{Run}
 use Rattle.pieces.specs.Piece.{Lists, flatT}
-use Rattle.run.specs.Facts.{Covers}
 use Rattle.run.specs.Run.{shapeCount, shapeTriangles}
 use Rattle.run.proofs.Facts.{run-covers}
 use Rattle.runs.specs.Runs.{runsOf, drawnOf, meshCount, meshTriangles}
@@ -25,7 +25,7 @@ use Rattle.mesh.proofs.Demand3.{demand-3}
 use Rattle.inspect.specs.Answer.{sound, checkOf, checkAttachedOf}
 use Rattle.inspect.specs.Together.{together, drawnRuns, firstDrawn, Runs, none, run}
 use Rattle.inspect.proofs.Exact.{all-held, attached-passes}
-use Rattle.inspect.proofs.Listed.{own-sound, linked-attached}
+use Rattle.inspect.proofs.Listed.{own-sound, joined-attached}
 use Rattle.inspect.proofs.Runs.{runs-pass, one-attached, more-apart}
 use Rattle.inspect_pins.specs.Mesh.{meshNumbers, meshChecked, meshAttached, runTriangles, RunAttached, AllAttached}
 
@@ -43,7 +43,7 @@ stand-runs o base (r ∷ rs) s =
     let later = stand-runs o (base + n) rs (s .1) in
     let e : base + n + meshCount o rs ≡ base + (n + meshCount o rs) = omega arith in
     let c = s .0 .covers in
-    run {lo = base} {mid = base + n} (omega arith) (c .own) (c .named) (c .linked) (subst (λ (k : ℕ). Runs (base + n) k (runTriangles o (base + n) rs)) e later)
+    run {lo = base} {mid = base + n} (omega arith) (c .own) (λ x h. c .named x (h .0) (h .1)) (c .joined) (subst (λ (k : ℕ). Runs (base + n) k (runTriangles o (base + n) rs)) e later)
 
 -- ---- run by run
 run-attached : (o : Stroke) (base : ℕ) (r : Run Endpoint) → RunAttached o base r
@@ -53,8 +53,8 @@ run-attached o base r =
     let own = shapeTriangles (r .closed) 0 (drawnOf o r) in
     let alone = subst (λ (m : ℕ). Covers 0 m own) (zero-add n) (run-covers o (r .closed) 0 (r .points)) in
     record {
-      part = all-held (flatT (shapeTriangles (r .closed) base (drawnOf o r))) (linked-attached (shapeTriangles (r .closed) base (drawnOf o r)) (here .linked));
-      alone = attached-passes n (flatT own) (own-sound n own (alone .own) (λ x h. alone .named x (omega arith, h))) (linked-attached own (alone .linked));
+      part = all-held (flatT (shapeTriangles (r .closed) base (drawnOf o r))) (joined-attached (shapeTriangles (r .closed) base (drawnOf o r)) (here .joined));
+      alone = attached-passes n (flatT own) (own-sound n own (alone .own) (λ x h. alone .named x (omega arith) h)) (joined-attached own (alone .joined));
     }
 
 pub run-by-run : (o : Stroke) (base : ℕ) (rs : List (Run Endpoint)) → AllAttached o base rs

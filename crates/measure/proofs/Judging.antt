@@ -26,7 +26,7 @@ use Rattle.runs.specs.Runs.{runsOf, meshCount, meshVertices, meshPiece}
 use Rattle.runs.proofs.Runs.{length-vertices, count-append}
 use Rattle.mesh.specs.Answer.{withPlace}
 use Rattle.mesh.specs.declared.answer.MeshAnswer.{MeshAnswer}
-use Rattle.mesh.proofs.Rooms.{counts-are, counts-bounded}
+use Rattle.mesh.proofs.Rooms.{counts-are, counts-limited}
 use Rattle.measure.specs.Answer.{measuredAnswerOf, withPart, withoutPart, partAnswerOf, onceAccepted}
 use Rattle.measure.specs.Judged.{Judgeable, judgedOf}
 use Rattle.measure.specs.Measure.{countsOf}
@@ -70,7 +70,7 @@ module _ (o : Stroke) (k : ℕ) (rs : List (Run Endpoint)) where
 pub told-judgeable : (o : Stroke) (k : ℕ) (verbs : List ℕ) (coords : List Float) → Sound verbs coords → Judgeable (toldOf o k (runsOf verbs coords))
 told-judgeable o k verbs coords s =
     let rs = runsOf verbs coords in
-    record { order = omega (arith, through-is o k rs); few = omega (arith, through-few o k rs, counts-bounded o verbs coords s .vertices, s .few) }
+    record { order = omega (arith, through-is o k rs); few = omega (arith, through-few o k rs, counts-limited o verbs coords s .0) }
 
 -- ---- where the part stands
 module _ (before through : ℕ) where

@@ -21,19 +21,20 @@ use Rattle.kept.proofs.Indexed.{points-length}
 use Rattle.pieces.specs.Piece.{Lists, lent, flatV, flatS, flatT}
 use Rattle.pieces.proofs.Pieces.{length-flatV, length-flatS, length-flatT}
 use Rattle.run.specs.Run.{shapeCount}
-use Rattle.run.proofs.Facts.{run-covers, run-counts}
+use Rattle.run.proofs.Facts.{run-covers, run-linked, run-counts}
 use Rattle.runs.specs.Runs.{runsOf, drawnOf, meshVertices, meshCount, meshTriangles}
 use Rattle.runs.proofs.Runs.{length-vertices}
 use Rattle.mesh.specs.Answer.{withCounts}
 use Rattle.mesh.proofs.Rooms.{smaller-both, smaller-least}
-use Rattle.mesh.specs.Demand3.{EarnsNone, AllStand, Written, Roomed, Demand3}
+use Rattle.mesh.specs.Demand3.{EarnsNone, RunStands, AllStand, Written, Roomed, Demand3}
 use Rattle.mesh.specs.Mesh.{Outcome, refused, vertexPlaces, acceptedOf, strokedOf, outcomeOf}
 
 -- ---- run by run
 pub all-stand : (o : Stroke) (base : ℕ) (rs : List (Run Endpoint)) → AllStand o base rs
 all-stand o base [] = tt
 all-stand o base (r ∷ rs) =
-    (record { counts = run-counts o (r .closed) base (r .points); covers = run-covers o (r .closed) base (r .points) }, all-stand o (base + shapeCount (drawnOf o r)) rs)
+    let stands : RunStands o base r = record { counts = run-counts o (r .closed) base (r .points); covers = run-covers o (r .closed) base (r .points); linked = run-linked o (r .closed) base (r .points) } in
+    (stands, all-stand o (base + shapeCount (drawnOf o r)) rs)
 
 -- ---- rooms, of an accepted path
 module _ (o : Stroke) (rs : List (Run Endpoint)) (l : Lists) where

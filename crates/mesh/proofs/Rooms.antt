@@ -1,10 +1,11 @@
 -- A path that is accepted is small enough to be counted and drawn, and where its answer is a mesh the lists have room for it. Assumes nothing.
-use Prim.Native.Nat.{ℕ, _+_, _-_, _*_, _/_, _≤_}
+use Prim.Native.Nat.{ℕ, _+_, _-_, _*_, _/_, _^_, _≤_}
 use mathlib.Core.Path.{_≡_, refl, sym, ap, _∙_}
 use mathlib.Core.Bool.{Bool, true, false, cond, false≢true}
 use mathlib.Core.List.{List, [], _∷_, _++_}
+use native.Mathlib.Nat.{le-trans, le-of-eq, mul-le-mul, mul-le-mul-left, mul-le-mul-right, pow-le-pow-right, div-mul-le-self}
 use native.Mathlib.Omega.{arith}
-use lib.Dec.{ltb, eqb}
+use lib.Dec.{ltb, eqb, lit≤}
 use lib.Ieee.{Float}
 use lib.ListN.{length, take, drop, length-append, length-take, length-drop}
 use borrow.Author.Tests.{le-ltb, ltb-true, ltb-false}
@@ -17,11 +18,13 @@ use Rattle.lists.specs.Over.{over}
 use Rattle.pieces.specs.Piece.{flatV, flatS, flatT, behind, Lists, lent, Fits, Passes}
 use Rattle.pieces.specs.declared.Place.{Place}
 use Rattle.pieces.proofs.Pieces.{laid-start}
-use Rattle.path.specs.Limits.{countLimit}
+use Rattle.path.specs.Limits.{mostToPoint, levelLimit, countLimit}
 use Rattle.path.specs.Path.{Sound}
 use Rattle.path.specs.Runs.{Run, runsFrom, pointsOf}
 use Rattle.path.specs.Verbs.{endClosed, names}
+use Rattle.options.specs.Options.{levelOf}
 use Rattle.options.specs.declared.Stroke.{Stroke}
+use Rattle.options.proofs.Levels.{level-few}
 use Rattle.path.proofs.Laws.{count-le}
 use Rattle.kept.specs.Points.{endpointsOf}
 use Rattle.kept.proofs.Indexed.{points-length}
@@ -66,23 +69,49 @@ smaller-least n a b h g = go (ltb b a)
     go true = g
     go false = h
 
+-- six levels at the most
+power-few : (level : ℕ) → level ≤ levelLimit → 2 ^ level ≤ 64
+power-few level h = pow-le-pow-right (lit≤ tt) h
+
+-- room for so many times two powers, by what is left of it when it is shifted
+pub shifted-room : (m n room : ℕ) → n ≤ room / m / 2 → 2 * m * n ≤ room
+shifted-room m n room h =
+    let twice : 2 * n ≤ room / m = omega arith in
+    le-trans (le-of-eq (regroup m n)) (le-trans (mul-le-mul-right m twice) (div-mul-le-self room m))
+  where
+    regroup : (m n : ℕ) → 2 * m * n ≡ 2 * n * m
+    regroup m n = omega arith
+
+-- two coordinates to a point
+twice-half : (m n : ℕ) → 4 * m * (n / 2) ≤ 2 * m * n
+twice-half m n = le-trans (le-of-eq (regroup m (n / 2))) (mul-le-mul-left (2 * m) (omega arith))
+  where
+    regroup : (m k : ℕ) → 4 * m * k ≡ 2 * m * (2 * k)
+    regroup m k = omega arith
+
 -- "the counts' bounds", to a verb: so many vertices and no more triangles
 module _ (o : Stroke) (vs : List ℕ) (cs : List Float) (s : Sound vs cs) where
-  pub counts-bounded : Bounded (length vs) (meshCounts o (runsOf vs cs))
+  points-few : length (pointsOf (runsOf vs cs)) ≤ length cs / 2
+  points-few = omega (arith, runs-points 0 vs (endpointsOf 0 cs), points-length cs 0)
+
+  pub counts-bounded : Bounded (levelOf o) (length vs) (meshCounts o (runsOf vs cs))
   counts-bounded =
       let b = runs-bounded o (runsOf vs cs) in
-      record { vertices = omega (arith, b .vertices, runs-points 0 vs (endpointsOf 0 cs), points-length cs 0, s .paired, count-le vs); triangles = b .triangles }
+      record { vertices = le-trans (b .vertices) (mul-le-mul-left (mostToPoint (levelOf o)) (omega (arith, points-few, s .paired, count-le vs))); triangles = b .triangles }
 
   -- "once over the verb limit": a u32 holds the number of every vertex
   pub counts-limited : (meshCount o (runsOf vs cs) ≤ countLimit) × (length (meshTriangles o 0 (runsOf vs cs)) ≤ countLimit)
-  counts-limited = let b = counts-bounded in (omega (arith, b .vertices, s .few), omega (arith, b .vertices, b .triangles, s .few))
+  counts-limited =
+      let b = counts-bounded in
+      let l = le-trans (b .vertices) (mul-le-mul (mul-le-mul-left 4 (power-few (levelOf o) (level-few o))) (s .few)) in
+      (l, le-trans (b .triangles) l)
 
   -- the same by the coordinates
-  few-vertices : meshCount o (runsOf vs cs) ≤ 2 * length cs
-  few-vertices = omega (arith, runs-bounded o (runsOf vs cs) .vertices, runs-points 0 vs (endpointsOf 0 cs), points-length cs 0)
+  few-vertices : meshCount o (runsOf vs cs) ≤ 2 * 2 ^ levelOf o * length cs
+  few-vertices = le-trans (runs-bounded o (runsOf vs cs) .vertices) (le-trans (mul-le-mul-left (mostToPoint (levelOf o)) points-few) (twice-half (2 ^ levelOf o) (length cs)))
 
-  few-triangles : length (meshTriangles o 0 (runsOf vs cs)) ≤ 2 * length cs
-  few-triangles = omega (arith, counts-bounded .triangles, few-vertices)
+  few-triangles : length (meshTriangles o 0 (runsOf vs cs)) ≤ 2 * 2 ^ levelOf o * length cs
+  few-triangles = le-trans (counts-bounded .triangles) few-vertices
 
   pub counts-fit : (l : Lists) → Fits false undrawn (meshPiece o undrawn (runsOf vs cs)) l
   counts-fit l =
@@ -122,12 +151,12 @@ module _ (o : Stroke) (vs : List ℕ) (cs : List Float) (s : Sound vs cs) (l : L
   outcome = acceptedOf l o (runsOf vs cs)
 
   -- ---- with plenty of room
-  module _ (q : Plenty (record { vertices = vertexPlaces l; triangles = length (l .triangles) / 3 }) (length cs)) where
+  module _ (q : Plenty (levelOf o) (record { vertices = vertexPlaces l; triangles = length (l .triangles) / 3 }) (length cs)) where
     v-room : meshCount o (runsOf vs cs) ≤ vertexPlaces l
-    v-room = omega (arith, q .vertices, few-vertices o vs cs s)
+    v-room = le-trans (few-vertices o vs cs s) (q .vertices)
 
     t-room : length (meshTriangles o 0 (runsOf vs cs)) ≤ length (l .triangles) / 3
-    t-room = omega (arith, q .triangles, few-triangles o vs cs s)
+    t-room = le-trans (few-triangles o vs cs s) (q .triangles)
 
     pub plenty-fits : Fits true undrawn (meshPiece o undrawn (runsOf vs cs)) l
     plenty-fits = room-fits o vs cs s l v-room t-room

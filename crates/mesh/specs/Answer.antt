@@ -1,5 +1,5 @@
 -- The mesh call's answer. Assumes nothing.
-use Prim.Native.Nat.{ℕ, _*_, _≤_}
+use Prim.Native.Nat.{ℕ, _*_, _^_, _≤_}
 use mathlib.Core.Bool.{Bool, cond}
 use lib.Dec.{ltb, eqb}
 use Rattle.refusals.specs.Numbers.{numberOf, verdictOf, accepted, vertexRoom, triangleRoom}
@@ -36,7 +36,7 @@ roomedOf n m vertexPlaces trianglePlaces =
     cond (ltb vertexPlaces n) (withCounts (numberOf vertexRoom) n m)
     (cond (ltb trianglePlaces m) (withCounts (numberOf triangleRoom) n m) (withCounts (numberOf accepted) n m))
 
--- Room for the most that so many coordinates can need, two of them to a point (`runs-bounded` of runs)
-pub record Plenty (r : Rooms) (coords : ℕ) : Type 0 where
-  pub vertices : 2 * coords ≤ r .vertices
-  pub triangles : 2 * coords ≤ r .triangles
+-- Room for the most that so many coordinates can need, two of them to a point, where arcs are so many levels deep (`runs-bounded` of runs)
+pub record Plenty (level : ℕ) (r : Rooms) (coords : ℕ) : Type 0 where
+  pub vertices : 2 * 2 ^ level * coords ≤ r .vertices
+  pub triangles : 2 * 2 ^ level * coords ≤ r .triangles

@@ -3,12 +3,13 @@
 use Prim.Native.Nat.{ℕ, _+_, _*_, _≤_, _<_}
 use mathlib.Core.Path.{_≡_}
 use mathlib.Core.List.{List, [], _∷_}
+use mathlib.Core.Bool.{false}
 use lib.Dec.{ltb}
 use lib.Ieee.{Float}
 use lib.ListN.{length, take, drop}
 use Rattle.refusals.specs.Numbers.{numberOf, accepted, vertexRoom, triangleRoom}
 use Rattle.endpoint.specs.declared.Endpoint.{Endpoint}
-use Rattle.options.specs.Options.{accepting, strokeOf}
+use Rattle.options.specs.Options.{isRound, accepting, strokeOf}
 use Rattle.path.specs.Path.{checkedOf}
 use Rattle.path.specs.Runs.{Run, verbsOf, pointsOf}
 use Rattle.options.specs.declared.Options.{Options}
@@ -18,8 +19,10 @@ use Rattle.joints.specs.Joint.{jointsOf}
 use Rattle.kept.specs.Kept.{keptPoints}
 use Rattle.pieces.specs.Piece.{Lists, flatV, flatS, flatT}
 use Rattle.strip.specs.Joint.{pairSides}
-use Rattle.run.specs.Facts.{RunCounts, Covers}
-use Rattle.run.specs.Run.{drawsCap, shapeCount, shapeTriangles}
+use Rattle.triangles.specs.Attached.{Covers}
+use Rattle.triangles.specs.Facts.{Linked}
+use Rattle.run.specs.Facts.{RunCounts}
+use Rattle.run.specs.Run.{drawsCap, capSize, arcsAdded, shapeCount, shapeTriangles}
 use Rattle.runs.specs.Runs.{runsOf, drawnOf, meshVertices, meshCount, meshTriangles}
 use Rattle.mesh.specs.Answer.{withCounts}
 use Rattle.mesh.specs.Mesh.{Outcome, refused, outcomeOf}
@@ -29,14 +32,15 @@ pub record EarnsNone (verbs : List ℕ) (coords : List Float) (options : Options
   pub within : strokeOf options ≡ accepting o
   pub accepted : checkedOf verbs coords .number ≡ numberOf accepted
 
--- "RunCounts follow from the join rules alone": by the points kept, their pair sides and, where one is kept, whether it draws the empty cap (a run has a line verb
--- where it has more than one point); "each triangle names three different vertices of its run, every vertex is named, each triangle but a run's first shares
--- exactly two vertices with the one before." A run whose vertices are numbered from base.
+-- "Counts follow from the join rules alone": by the points kept, their pair sides, what arcs add and, where one is kept, whether it draws the empty cap (a run has a line
+-- verb where it has more than one point); "each triangle names three different vertices of its run, every vertex is named", and each but a run's first shares exactly two
+-- vertices "with some earlier triangle of the run" (W-209); where nothing is round, "with the one before". A run whose vertices are numbered from base.
 pub record RunStands (o : Stroke) (base : ℕ) (r : Run Endpoint) : Type 0 where
   pub counts : let kept = keptPoints (o .near) (r .closed) (r .points) in
-      RunCounts (r .closed) (drawsCap (o .cap) (r .closed) (ltb 1 (length (r .points)))) (length kept) (pairSides (jointsOf (r .closed) o kept))
+      RunCounts (r .closed) (drawsCap (o .cap) (r .closed) (ltb 1 (length (r .points)))) (capSize o) (length kept) (pairSides (jointsOf (r .closed) o kept)) (arcsAdded (r .closed) o kept)
       (shapeCount (drawnOf o r)) (length (shapeTriangles (r .closed) base (drawnOf o r)))
   pub covers : Covers base (base + shapeCount (drawnOf o r)) (shapeTriangles (r .closed) base (drawnOf o r))
+  pub linked : isRound o ≡ false → Linked (shapeTriangles (r .closed) base (drawnOf o r))
 
 -- run by run, vertex numbers going on over all runs
 abbrev pub AllStand : Stroke → ℕ → List (Run Endpoint) → Type 0

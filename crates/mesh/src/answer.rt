@@ -7,6 +7,7 @@ use refusals::VERTEX_ROOM;
 use refusals::verdict_of;
 ghost use mathlib.Core.Bool.{true};
 ghost use mathlib.Core.Path.{_≡_};
+ghost use Prim.Native.Nat.{_≤_};
 ghost use Rattle.mesh.specs.Answer.{meshAnswerOf, withCounts, withPlace, isMesh, smallerOf, roomedOf, Plenty};
 
 // A mesh, or the first refusal by number. A mesh and the refusals for want of room have both counts: vertices, then triangles.
@@ -44,11 +45,12 @@ pub fn smaller(a: usize, b: usize) -> usize
     a
 }
 
-// Whether there is room for the most that so many coordinates can need: four vertices and four triangles to a point.
-pub fn is_plenty(r: Rooms, coords: usize) -> bool
-    ensures { λ p. ⌜ (p ≡ true → Plenty r coords) ⌝ }
+// Whether there is room for the most that so many coordinates can need: four vertices and four triangles to a point, twice as many with each level of arcs.
+pub fn is_plenty(r: Rooms, coords: usize, level: u32) -> bool
+    requires { ⌜ level ≤ 6 ⌝ }
+    ensures { λ p. ⌜ (p ≡ true → Plenty level r coords) ⌝ }
 {
-    coords <= r.vertices / 2 && coords <= r.triangles / 2
+    coords <= (r.vertices >> level) / 2 && coords <= (r.triangles >> level) / 2
 }
 
 // Refusals 6 and 7, by what a path needs.

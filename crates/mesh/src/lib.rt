@@ -11,6 +11,7 @@ use along::Pass;
 use options::Options;
 use options::Stroke;
 use options::Stroked;
+use options::level_of;
 use options::stroke_of;
 use path::Checked;
 use path::check_path;
@@ -70,7 +71,7 @@ fn mesh_accepted(
         stroke,
         write: true,
     };
-    if is_plenty(rooms, coords.len()) {
+    if is_plenty(rooms, coords.len(), level_of(stroke)) {
         let d = draw_runs(vertices, sources, triangles, draw, verbs, coords);
         return Meshed::Mesh(d.vertices, d.triangles);
     }

@@ -20,7 +20,7 @@ use Rattle.mesh.specs.Mesh as mesh
 
 -- "width 2, limit 4, Miter, Butt"; its merge range is document 01's 1/128
 abbrev pub optionsOf : Options
-optionsOf = record { width = ofBits binary32 0x40000000; «miter_limit» = ofBits binary32 0x40800000; «line_join» = 0; cap = 0; «merge_range» = ofBits binary32 0x3c000000 }
+optionsOf = record { width = ofBits binary32 0x40000000; «miter_limit» = ofBits binary32 0x40800000; «line_join» = 0; cap = 0; «merge_range» = ofBits binary32 0x3c000000; detail = 0 }
 
 -- "the program keeps its buffers and gives 8 above 16,384 bytes" (W-205)
 abbrev pub textRoom : ℕ

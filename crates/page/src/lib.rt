@@ -89,5 +89,6 @@ fn options() -> Options
         line_join: 0,
         cap: 0,
         merge_range: 0.0078125,
+        detail: 0,
     }
 }

@@ -24,7 +24,7 @@ use Rattle.vertices.specs.Base.{baseVertexOf, sideVerticesOf}
 use Rattle.vertices.specs.Cap.{capVertexOf, capPairOf, capVerticesOf}
 use Rattle.vertices.specs.Vertex.{vertexOf, triangleOf}
 use Rattle.path.specs.Coordinates.{coordinateIn, firstOutside}
-use Rattle.options.specs.Options.{within, lineJoinOf, inRange, preparedOf, strokeOf, lineCapOf}
+use Rattle.options.specs.Options.{within, lineJoinOf, inRange, preparedOf, strokeOf, lineCapOf, isRound, levelOf}
 use Rattle.path.specs.Path.{malformed, checkedOf}
 use Rattle.path.specs.Runs.{runsFrom}
 use Rattle.path.specs.Verbs.{begin, line, endOpen, endClosed, names, placed, firstMisplaced, endsInside, named, pointCount}
@@ -35,7 +35,16 @@ use Rattle.joints.specs.Leg.{legOf, nextLegOf}
 use Rattle.strip.specs.Joint.{vertexCount, jointVerticesOf, verticesOf}
 use Rattle.strip.specs.Section.{sections}
 use Rattle.strip.specs.Triangle.{different, triOf, between, stripOf, through}
-use Rattle.run.specs.Run.{shapeOf, shapeCount, shapeVertices, shapeTriangles}
+use Rattle.arc.specs.Arc.{middleOf, arcNormals, arcTriangles, arcVertexOf, arcVertices}
+use Rattle.fans.specs.Fans.{normalAt, firstNormal, lastNormal, hubOf, getsArc, sideWeft, startFan, endFan}
+use Rattle.fans.specs.Weft.{then}
+use Rattle.bends.specs.Bend.{edgeFaces, dueWeft, arcsWeft, endWeft, bendWeft}
+use Rattle.bends.specs.Weave.{wovenFrom}
+use Rattle.weave.specs.Points.{bendsFrom, bendsOf}
+use Rattle.woven.specs.Counts.{arcSides}
+use Rattle.woven.specs.Woven.{wovenOf}
+use Rattle.strip.specs.Strip.{stepOf, stepsOf, stepTriangles}
+use Rattle.run.specs.Run.{roundOf, shapeOf, shapeCount, shapeVertices, shapeTriangles}
 use Rattle.runs.specs.Runs.{meshVertices, meshCount, meshTriangles}
 use Rattle.pieces.specs.Piece.{lent}
 use Rattle.mesh.specs.Mesh.{Outcome, acceptedOf, strokedOf, outcomeOf}
@@ -56,7 +65,7 @@ merging merge = record { join = 0; cap = 0; merge = merge }
 
 -- width 2 and limit 4
 abbrev optionsOf : Pen → Options
-optionsOf p = record { width = f32 0x40000000; «miter_limit» = f32 0x40800000; «line_join» = p .join; cap = p .cap; «merge_range» = f32 (p .merge) }
+optionsOf p = record { width = f32 0x40000000; «miter_limit» = f32 0x40800000; «line_join» = p .join; cap = p .cap; «merge_range» = f32 (p .merge); detail = 0 }
 
 -- the endpoint k, otherwise blank, for the window's cases
 abbrev numbered : ℕ → EndpointData
@@ -154,7 +163,7 @@ cases =
     ∷ mesh (pen 0 0) (begin ∷ line ∷ endOpen ∷ []) (0 ∷ 0 ∷ 0x3c000000 ∷ 0 ∷ []) 4 2 0 0 4 2
     ∷ mesh (pen 0 0) (begin ∷ line ∷ endOpen ∷ []) (0 ∷ 0 ∷ 0x3b800000 ∷ 0 ∷ []) 0 0 0 0 0 0
     -- an option, the verbs and a coordinate all wrong: 1; the coordinate: 4. Too many verbs, 2, are too many to compute over: `many-lines` of path
-    ∷ mesh (pen 3 0) (line ∷ []) (0x7fc00000 ∷ 0 ∷ []) 0 0 1 0 0 0
+    ∷ mesh (pen 4 0) (line ∷ []) (0x7fc00000 ∷ 0 ∷ []) 0 0 1 0 0 0
     ∷ mesh (pen 0 0) (begin ∷ endOpen ∷ []) (0 ∷ 0x7fc00000 ∷ []) 0 0 4 1 0 0
     -- (0,0), (100,0), (100,100), closed or open: Miter and Bevel
     ∷ mesh (pen 0 0) (begin ∷ line ∷ line ∷ endOpen ∷ []) (0 ∷ 0 ∷ 0x42c80000 ∷ 0 ∷ 0x42c80000 ∷ 0x42c80000 ∷ []) 6 4 0 0 6 4
@@ -191,7 +200,7 @@ unfolding baseVertexOf sideVerticesOf capVertexOf capPairOf capVerticesOf vertex
 vertices = tt
 
 paths : Unit {0}
-unfolding coordinateIn firstOutside within lineJoinOf lineCapOf inRange preparedOf strokeOf malformed checkedOf runsFrom names placed firstMisplaced endsInside named pointCount endpointsOf
+unfolding coordinateIn firstOutside within lineJoinOf lineCapOf inRange preparedOf strokeOf isRound malformed checkedOf runsFrom names placed firstMisplaced endsInside named pointCount endpointsOf
 paths = tt
 
 runs : Unit {0}
@@ -226,3 +235,24 @@ sourced = refl
 pub faced : line-example .lists .triangles ≡ 1 ∷ 0 ∷ 2 ∷ 1 ∷ 2 ∷ 3 ∷ 9 ∷ []
 unfolding line-example arithmetic vectors joins vertices paths runs meshes
 faced = refl
+
+-- W-209: `M0 0L8 0`, width 2, Round cap, k = 1
+pub round-example : Outcome
+round-example =
+    outcomeOf (begin ∷ line ∷ endOpen ∷ []) (map f32 (0 ∷ 0 ∷ 0x41000000 ∷ 0 ∷ []))
+    (record { width = f32 0x40000000; «miter_limit» = f32 0x40800000; «line_join» = 0; cap = 2; «merge_range» = f32 0x3c000000; detail = 1 })
+    (lent (replicate 50 (f32 0)) (replicate 11 99) (replicate 25 99))
+
+arcs : Unit {0}
+unfolding levelOf roundOf middleOf arcNormals arcTriangles arcVertexOf arcVertices normalAt firstNormal lastNormal hubOf getsArc sideWeft startFan endFan then edgeFaces dueWeft arcsWeft endWeft bendWeft wovenFrom bendsFrom bendsOf wovenOf arcSides stepOf stepsOf stepTriangles
+arcs = tt
+
+-- the strip's four vertices and two triangles, and behind the edge three of each for each cap
+pub round-sources : round-example .lists .sources ≡ 0 ∷ 1 ∷ 2 ∷ 3 ∷ 0 ∷ 1 ∷ 0 ∷ 2 ∷ 2 ∷ 2 ∷ 99 ∷ []
+unfolding round-example arithmetic vectors joins vertices paths runs meshes arcs
+round-sources = refl
+
+pub round-faces : round-example .lists .triangles
+    ≡ 1 ∷ 0 ∷ 2 ∷ 1 ∷ 2 ∷ 3 ∷ 1 ∷ 4 ∷ 0 ∷ 1 ∷ 5 ∷ 4 ∷ 4 ∷ 6 ∷ 0 ∷ 2 ∷ 7 ∷ 3 ∷ 2 ∷ 8 ∷ 7 ∷ 7 ∷ 9 ∷ 3 ∷ 99 ∷ []
+unfolding round-example arithmetic vectors joins vertices paths runs meshes arcs
+round-faces = refl

@@ -10,7 +10,7 @@ use Rattle.join.specs.Edge.{edgeSideOf, edgeOf}
 use Rattle.vertices.specs.Base.{baseVertexOf, sideVerticesOf}
 use Rattle.vertices.specs.Vertex.{vertexOf}
 use Rattle.path.specs.Coordinates.{coordinateIn, firstOutside}
-use Rattle.options.specs.Options.{within, inRange, lineCapOf, preparedOf, strokeOf}
+use Rattle.options.specs.Options.{within, inRange, lineJoinOf, lineCapOf, preparedOf, strokeOf, isRound}
 use Rattle.path.specs.Path.{malformed, checkedOf}
 use Rattle.path.specs.Runs.{runsFrom}
 use Rattle.path.specs.Verbs.{names, placed, firstMisplaced, endsInside, named, pointCount}
@@ -45,7 +45,7 @@ unfolding singleOf edgeSideOf edgeOf baseVertexOf sideVerticesOf vertexOf
 joins = tt
 
 paths : Unit {0}
-unfolding coordinateIn firstOutside within inRange lineCapOf preparedOf strokeOf malformed checkedOf runsFrom names placed firstMisplaced endsInside named pointCount endpointsOf
+unfolding coordinateIn firstOutside within inRange lineJoinOf lineCapOf preparedOf strokeOf isRound malformed checkedOf runsFrom names placed firstMisplaced endsInside named pointCount endpointsOf
 paths = tt
 
 runs : Unit {0}

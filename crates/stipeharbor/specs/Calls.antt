@@ -20,8 +20,8 @@ use Rattle.stl.specs.Write.{writeOf}
 use Rattle.widths.specs.Widths.{Outcome, widenOf, narrowOf}
 
 -- ---- stipeharbor_tessellate
-abbrev pub optionsOf : Float → Float → ℕ → ℕ → Float → Options
-optionsOf width limit join cap merge = record { width = width; «miter_limit» = limit; «line_join» = join; cap = cap; «merge_range» = merge }
+abbrev pub optionsOf : Float → Float → ℕ → ℕ → Float → ℕ → Options
+optionsOf width limit join cap merge detail = record { width = width; «miter_limit» = limit; «line_join» = join; cap = cap; «merge_range» = merge; detail = detail }
 
 pub record Tessellated : Type 0 where
   pub number : ℕ

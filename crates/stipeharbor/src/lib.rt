@@ -44,12 +44,13 @@ pub extern "C" fn stipeharbor_tessellate(
     line_join: u32,
     line_cap: u32,
     merge_range: f32,
+    detail: u32,
     vertices: &mut [f32],
     sources: &mut [u32],
     triangles: &mut [Index],
     answer: &mut [usize],
 ) -> u32
-    ensures { λ r. ⌜ tessellated r (now (answer .exit)) (now (vertices .exit)) (now (sources .exit)) (now (triangles .exit)) ≡ tessellateOutOf (now (verbs .entry)) (now (coords .entry)) (optionsOf width «miter_limit» «line_join» «line_cap» «merge_range») (lent (now (vertices .entry)) (now (sources .entry)) (now (triangles .entry))) (now (answer .entry)) ⌝ }
+    ensures { λ r. ⌜ tessellated r (now (answer .exit)) (now (vertices .exit)) (now (sources .exit)) (now (triangles .exit)) ≡ tessellateOutOf (now (verbs .entry)) (now (coords .entry)) (optionsOf width «miter_limit» «line_join» «line_cap» «merge_range» detail) (lent (now (vertices .entry)) (now (sources .entry)) (now (triangles .entry))) (now (answer .entry)) ⌝ }
 {
     let options = Options {
         width: width,
@@ -57,6 +58,7 @@ pub extern "C" fn stipeharbor_tessellate(
         line_join: line_join,
         cap: line_cap,
         merge_range: merge_range,
+        detail: detail,
     };
     let a = mesh_answer_of(tessellate(verbs, coords, options, vertices, sources, triangles));
     put_numbers(answer, a.place, a.vertices, a.triangles);

@@ -19,9 +19,10 @@ pub extern "C" fn stipeharbor_measure(
     line_join: u32,
     line_cap: u32,
     merge_range: f32,
+    detail: u32,
     answer: &mut [usize],
 ) -> u32
-    ensures { λ r. ⌜ record { number = r; answer = now (answer .exit) } ≡ measureOutOf (now (verbs .entry)) (now (coords .entry)) (optionsOf width «miter_limit» «line_join» «line_cap» «merge_range») (now (answer .entry)) ⌝ }
+    ensures { λ r. ⌜ record { number = r; answer = now (answer .exit) } ≡ measureOutOf (now (verbs .entry)) (now (coords .entry)) (optionsOf width «miter_limit» «line_join» «line_cap» «merge_range» detail) (now (answer .entry)) ⌝ }
 {
     let options = Options {
         width: width,
@@ -29,6 +30,7 @@ pub extern "C" fn stipeharbor_measure(
         line_join: line_join,
         cap: line_cap,
         merge_range: merge_range,
+        detail: detail,
     };
     let a = measured_answer_of(measure(verbs, coords, options));
     put_numbers(answer, a.place, a.vertices, a.triangles);
@@ -46,11 +48,12 @@ pub extern "C" fn stipeharbor_run_part(
     line_join: u32,
     line_cap: u32,
     merge_range: f32,
+    detail: u32,
     run: usize,
     vertices: &[f32],
     answer: &mut [usize],
 ) -> u32
-    ensures { λ r. ⌜ record { number = r; answer = now (answer .exit) } ≡ partOutOf (now (verbs .entry)) (now (coords .entry)) (optionsOf width «miter_limit» «line_join» «line_cap» «merge_range») run (now (vertices .entry)) (now (answer .entry)) ⌝ }
+    ensures { λ r. ⌜ record { number = r; answer = now (answer .exit) } ≡ partOutOf (now (verbs .entry)) (now (coords .entry)) (optionsOf width «miter_limit» «line_join» «line_cap» «merge_range» detail) run (now (vertices .entry)) (now (answer .entry)) ⌝ }
 {
     let options = Options {
         width: width,
@@ -58,6 +61,7 @@ pub extern "C" fn stipeharbor_run_part(
         line_join: line_join,
         cap: line_cap,
         merge_range: merge_range,
+        detail: detail,
     };
     let a = part_answer_of(find_run(verbs, coords, options, run, vertices.len()));
     put_numbers(answer, a.place, a.start, a.length);

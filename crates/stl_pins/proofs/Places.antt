@@ -7,9 +7,12 @@ use lib.Dec.{T}
 use lib.Ieee.{Float, nan, binary32, fits}
 use lib.Ieee.Fits.{add-fits, nan-fits}
 use lib.ListN.{getD}
+use Rattle.lists.specs.All.{All}
 use Rattle.lists.specs.Over.{flat}
+use Rattle.lists.proofs.All.{all-append}
 use Rattle.plane.specs.F32.{f32}
 use Rattle.plane.specs.Vector.{plusOf}
+use Rattle.plane.specs.declared.vector.Point.{Point}
 use Rattle.endpoint.specs.declared.Endpoint.{Endpoint}
 use Rattle.endpoint.specs.declared.EndpointData.{EndpointData}
 use Rattle.endpoint.specs.declared.Side.{Side}
@@ -18,25 +21,29 @@ use Rattle.endpoint.specs.declared.SidePoints.{SidePoints}
 use Rattle.endpoint.specs.declared.SidePoints.the-variants.{Single, Pair}
 use Rattle.pieces.specs.Piece.{Vertex, flatV}
 use Rattle.path.specs.Runs.{Run}
+use Rattle.options.specs.Options.{levelOf}
 use Rattle.options.specs.declared.Stroke.{Stroke}
 use Rattle.vertices.specs.Base.{baseVertexOf, sideVerticesOf, baseVerticesOf}
 use Rattle.vertices.specs.Cap.{capVertexOf, capPairOf, capVerticesOf}
 use Rattle.vertices.specs.Vertex.{vertexOf}
 use Rattle.strip.specs.Joint.{jointVerticesOf, verticesOf}
-use Rattle.run.specs.Run.{Shape, nothing, emptyCap, along, shapeVertices}
+use Rattle.joints.specs.Joint.{jointsOf}
+use Rattle.arc.specs.Arc.{arcVertexOf}
+use Rattle.arc.specs.declared.Hub.{Hub}
+use Rattle.round_cap.proofs.Rim.{Rim, cap-rim}
+use Rattle.run.specs.Run.{Shape, nothing, emptyCap, along, roundCap, roundAlong, roundOf, capPiece, zeroth, shapeVertices}
 use Rattle.runs.specs.Runs.{drawnOf, meshVertices}
 use Rattle.stl.specs.Back.{PlacesHeld}
+use Rattle.stl_pins.proofs.Arcs.{has-woven}
 
 abbrev PlaceHeld : Vertex → Type 0
 PlaceHeld v = T (fits binary32 (v .x)) × T (fits binary32 (v .y))
 
 abbrev AllHeld : List Vertex → Type 0
-AllHeld [] = Unit
-AllHeld (v ∷ vs) = PlaceHeld v × AllHeld vs
+AllHeld = All PlaceHeld
 
 append-held : (vs ws : List Vertex) → AllHeld vs → AllHeld ws → AllHeld (vs ++ ws)
-append-held [] ws h g = g
-append-held (v ∷ vs) ws (p, h) g = (p, append-held vs ws h g)
+append-held = all-append PlaceHeld
 
 -- in the list of floats, five to a vertex
 pub places-held : (vs : List Vertex) → AllHeld vs → PlacesHeld (flatV vs)
@@ -74,12 +81,28 @@ caps-held : (e : Endpoint) (h a : Float) → AllHeld (capVerticesOf e h a)
 unfolding capVerticesOf capPairOf
 caps-held e h a = (cap-held e h a _ _ _, (cap-held e h a _ _ _, (cap-held e h a _ _ _, (cap-held e h a _ _ _, tt))))
 
+-- ---- arcs, and the round empty cap
+arc-held : (hub : Hub) (m : Point) → PlaceHeld (arcVertexOf hub m)
+unfolding arcVertexOf vertexOf plusOf
+arc-held hub m = (add-fits binary32 _ _, add-fits binary32 _ _)
+
+rim-held : (p : Endpoint) (h : Float) (v : Vertex) → Rim p h v → PlaceHeld v
+unfolding vertexOf plusOf
+rim-held p h v r = rw (r .is) (add-fits binary32 _ _, add-fits binary32 _ _)
+
+rims-held : (p : Endpoint) (h : Float) (vs : List Vertex) → All (Rim p h) vs → AllHeld vs
+rims-held p h [] a = tt
+rims-held p h (v ∷ vs) a = (rim-held p h v (a .0), rims-held p h vs (a .1))
+
 -- ---- runs
 shape-held : (o : Stroke) (s : Shape) → AllHeld (shapeVertices o s)
 unfolding shapeVertices
 shape-held o nothing = tt
 shape-held o (emptyCap p) = caps-held p (o .«half_width») (f32 0)
 shape-held o (along js) = joints-held js
+shape-held o (roundCap s p) = rims-held p (s .«half_width») (capPiece s zeroth p .vertices) (cap-rim p (s .«half_width») (levelOf s) zeroth)
+shape-held o (roundAlong closed s p q ks) =
+    append-held (verticesOf (jointsOf closed s (p ∷ q ∷ ks))) _ (joints-held (jointsOf closed s (p ∷ q ∷ ks))) (has-woven PlaceHeld arc-held closed s (roundOf s) zeroth (p ∷ q ∷ ks) _)
 
 pub mesh-held : (o : Stroke) (rs : List (Run Endpoint)) → AllHeld (meshVertices o rs)
 unfolding meshVertices
