@@ -145,33 +145,61 @@ module _ {h : Float} (W : Width h) where
       side-held side (Single x y) L = (base-held side x y L, tt)
       side-held side (Pair x0 y0 x1 y1) L = (base-held side x0 y0 (L .0), (base-held side x1 y1 (L .1), tt))
 
-      pub joint-held : SideLies (j .positive) → SideLies (j .negative) → All Held (jointVerticesOf j)
-      unfolding jointVerticesOf
-      joint-held L M =
-          all-append Held (baseVerticesOf j Positive) (baseVerticesOf j Negative) (side-held Positive (j .positive) L) (side-held Negative (j .negative) M)
-
 -- ---- the joints of a stroke
 module _ (o : Stroke) (S : Wide o) where
+  abbrev h : Float
+  h = o .«half_width»
+
+  -- a joint about a point inside the limits, its sides' points beside it
+  pub record Sited (j : EndpointData) : Type 0 where
+    pub centre : Endpoint
+    pub inside : Inside centre
+    pub at : j .position ≡ centre .position
+    pub wide : j .«half_width» ≡ h
+    pub positive : SideLies (S .half) centre inside (j .positive)
+    pub negative : SideLies (S .half) centre inside (j .negative)
+
+  pub joint-held : (j : EndpointData) → Sited j → All Held (jointVerticesOf j)
+  unfolding jointVerticesOf
+  joint-held j J =
+      all-append Held (baseVerticesOf j Positive) (baseVerticesOf j Negative)
+      (side-held (S .half) (J .centre) (J .inside) j (J .at) (J .wide) Positive (j .positive) (J .positive))
+      (side-held (S .half) (J .centre) (J .inside) j (J .at) (J .wide) Negative (j .negative) (J .negative))
+
   module _ (leg : Leg) (A : Inside (leg .from)) (B : Inside (leg .to)) (E : Edged (S .half) (leg .from) (leg .to) A B (leg .edge)) where
-    pub join-held : (next : Leg) (q : Endpoint) (Q : Inside q) → Edged (S .half) (leg .to) q B Q (next .edge) → isClip (o .«line_join») ≡ false → All Held (jointVerticesOf (jointOf o leg next))
+    pub join-sited : (next : Leg) (q : Endpoint) (Q : Inside q) → Edged (S .half) (leg .to) q B Q (next .edge) → isClip (o .«line_join») ≡ false → Sited (jointOf o leg next)
     unfolding jointOf sidePositionsOf turnOf unworkedOf dataOf
-    join-held next q Q F J =
-        joint-held (S .half) (leg .to) B (jointOf o leg next) refl refl
-        (side-lies (S .half) (leg .to) B (leg .from) q A Q _ _ _ _ (o .«line_join») J (leg .edge .positive) (next .edge .positive) Positive (E .positive) (F .positive))
-        (side-lies (S .half) (leg .to) B (leg .from) q A Q _ _ _ _ (o .«line_join») J (leg .edge .negative) (next .edge .negative) Negative (E .negative) (F .negative))
+    join-sited next q Q F J = record {
+      centre = leg .to;
+      inside = B;
+      at = refl;
+      wide = refl;
+      positive = side-lies (S .half) (leg .to) B (leg .from) q A Q _ _ _ _ (o .«line_join») J (leg .edge .positive) (next .edge .positive) Positive (E .positive) (F .positive);
+      negative = side-lies (S .half) (leg .to) B (leg .from) q A Q _ _ _ _ (o .«line_join») J (leg .edge .negative) (next .edge .negative) Negative (E .negative) (F .negative);
+    }
 
-    pub start-held : All Held (jointVerticesOf (startCapOf o leg))
+    pub start-sited : Sited (startCapOf o leg)
     unfolding startCapOf capOf dataOf
-    start-held =
+    start-sited =
         let q = unit-short (reversed (leg .edge .t) (E .t)) in
-        joint-held (S .half) (leg .from) A (startCapOf o leg) refl refl
-        (capped (S .half) (leg .from) A (leg .edge .positive .from) (negatedOf (leg .edge .t)) (o .clip) (E .positive .from) q (S .clip))
-        (capped (S .half) (leg .from) A (leg .edge .negative .from) (negatedOf (leg .edge .t)) (o .clip) (E .negative .from) q (S .clip))
+        record {
+          centre = leg .from;
+          inside = A;
+          at = refl;
+          wide = refl;
+          positive = capped (S .half) (leg .from) A (leg .edge .positive .from) (negatedOf (leg .edge .t)) (o .clip) (E .positive .from) q (S .clip);
+          negative = capped (S .half) (leg .from) A (leg .edge .negative .from) (negatedOf (leg .edge .t)) (o .clip) (E .negative .from) q (S .clip);
+        }
 
-    pub end-held : All Held (jointVerticesOf (endCapOf o leg))
+    pub end-sited : Sited (endCapOf o leg)
     unfolding endCapOf capOf dataOf
-    end-held =
+    end-sited =
         let q = unit-short (E .t) in
-        joint-held (S .half) (leg .to) B (endCapOf o leg) refl refl
-        (capped (S .half) (leg .to) B (leg .edge .positive .to) (leg .edge .t) (o .clip) (E .positive .to) q (S .clip))
-        (capped (S .half) (leg .to) B (leg .edge .negative .to) (leg .edge .t) (o .clip) (E .negative .to) q (S .clip))
+        record {
+          centre = leg .to;
+          inside = B;
+          at = refl;
+          wide = refl;
+          positive = capped (S .half) (leg .to) B (leg .edge .positive .to) (leg .edge .t) (o .clip) (E .positive .to) q (S .clip);
+          negative = capped (S .half) (leg .to) B (leg .edge .negative .to) (leg .edge .t) (o .clip) (E .negative .to) q (S .clip);
+        }

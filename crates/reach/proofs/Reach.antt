@@ -1,5 +1,5 @@
--- W-214, whole. The runs of an accepted path have their points inside the limits, and few enough; so each run's vertices are in reach, where no join is clipped, and their advancements do not
--- fall; so those of the mesh, and each five floats of the list that the call leaves. Assumes nothing.
+-- W-214, whole, and W-209's sentence of how long arcs are. The runs of an accepted path have their points inside the limits, and few enough; so each run's vertices are in reach, where no
+-- join is clipped, their advancements do not fall, and its arcs' are h long; so those of the mesh, and each five floats of the list that the call leaves. Assumes nothing.
 use mathlib.Core.Path.{_≡_, refl, subst}
 use Prim.Native.Nat.{ℕ, _^_, _≤_, _<_}
 use mathlib.Core.Bool.{Bool, true, false}
@@ -14,7 +14,7 @@ use Rattle.refusals.specs.Numbers.{numberOf, accepted}
 use Rattle.plane.specs.Normal.{pick}
 use Rattle.plane.specs.declared.vector.Point.{Point}
 use Rattle.endpoint.specs.declared.Endpoint.{Endpoint}
-use Rattle.endpoint.specs.declared.LineJoin.the-variants.{Miter, MiterClip, Bevel}
+use Rattle.endpoint.specs.declared.LineJoin.the-variants.{Miter, MiterClip, Bevel, Round}
 use Rattle.join.specs.Side.{isClip}
 use Rattle.options.specs.Options.{lineJoinOf, preparedOf, strokeOf}
 use Rattle.options.specs.declared.Options.{Options}
@@ -24,23 +24,23 @@ use Rattle.path.specs.Runs.{Run}
 use Rattle.path.proofs.Laws.{sound}
 use Rattle.kept.specs.Points.{endpointsOf}
 use Rattle.lists.specs.All.{All}
-use Rattle.lists.proofs.All.{all-append}
 use Rattle.pieces.specs.Piece.{Vertex, Lists}
-use Rattle.run.specs.Run.{shapeVertices}
-use Rattle.runs.specs.Runs.{runsOf, drawnOf, meshVertices}
+use Rattle.runs.specs.Runs.{runsOf, meshVertices}
 use Rattle.mesh.specs.Mesh.{outcomeOf}
 use Rattle.rounding.proofs.Scales.{one}
 use Rattle.units.proofs.Normals.{past-threshold}
 use Rattle.units.proofs.Vectors.{UnitVector}
 use Rattle.far.proofs.Path.{RunIn, path-in}
-use Rattle.far.proofs.Ranges.{accepted as accepted-options, near-limit}
+use Rattle.far.proofs.Ranges.{Limit, accepted as accepted-options, near-limit}
 use Rattle.reach.specs.Reach.{AtMost, floatAt, Reached, leftOut, Asked, Proved, NoneFalls, Advances}
+use Rattle.reach.specs.Lengths.{AllLong, ArcsLong}
 use Rattle.reach.specs.Threshold.{OneLong, PastThreshold}
-use Rattle.reach.proofs.Widths.{wide}
+use Rattle.reach.proofs.Widths.{Wide, wide}
 use Rattle.reach.proofs.Joints.{Held}
-use Rattle.reach.proofs.Course.{Drawn, run-drawn}
+use Rattle.reach.proofs.Advancements.{From}
+use Rattle.reach.proofs.Drawn.{run-drawn, all-held, all-from}
 use Rattle.reach.proofs.Mesh.{blank, Left, left}
-use Rattle.reach.proofs.Runs.{at-most, Few, runs-few, all-at, Goods, mesh-finite, none-falls}
+use Rattle.reach.proofs.Runs.{at-most, Few, runs-few, all-at, Goods, mesh-all, Reads, none-falls, all-long}
 
 looser : {z : Float} {j k : ℕ} → AtMost j z → j ≤ k → AtMost k z
 looser a l = record { down = a .down; units = a .units; value = a .value; most = le-trans (a .most) (mul-le-mul-right (2 ^ 149) l) }
@@ -62,12 +62,13 @@ normal-bounded v1 v2 U1 U2 e =
 -- ---- a join that is not number 1 does not clip
 number-unclipped : (n : ℕ) → (n ≡ leftOut → ⊥) → isClip (lineJoinOf n) ≡ false
 unfolding lineJoinOf
-number-unclipped n f = go (eqb n 0) (eqb n 1) (eqb-true n 1)
+number-unclipped n f = go (eqb n 0) (eqb n 1) (eqb n 2) (eqb-true n 1)
   where
-    go : (a b : Bool) → (b ≡ true → n ≡ 1) → isClip (pick a Miter (pick b MiterClip Bevel)) ≡ false
-    go true b g = refl
-    go false true g = absurd (f (g refl))
-    go false false g = refl
+    go : (a b c : Bool) → (b ≡ true → n ≡ 1) → isClip (pick a Miter (pick b MiterClip (pick c Bevel Round))) ≡ false
+    go true b c g = refl
+    go false true c g = absurd (f (g refl))
+    go false false true g = refl
+    go false false false g = refl
 
 -- ---- the call
 module _ (verbs : List ℕ) (coords : List Float) (options : Options) (l : Lists) (e : outcomeOf verbs coords options l .answer .number ≡ numberOf accepted) where
@@ -83,25 +84,18 @@ module _ (verbs : List ℕ) (coords : List Float) (options : Options) (l : Lists
   abbrev S : Sound verbs coords
   S = sound verbs coords (L .earned .accepted)
 
-  abbrev drawn : List (Run Endpoint) → Type 0
-  drawn qs = All (λ (r : Run Endpoint). Drawn o (wide options o (L .earned .within)) (near-limit options o (L .earned .within)) (shapeVertices o (drawnOf o r))) qs
+  abbrev W : Wide o
+  W = wide options o (L .earned .within)
 
-  runs-drawn : (qs : List (Run Endpoint)) → All RunIn qs → All (Few 65536) qs → drawn qs
+  abbrev N : Limit (o .near)
+  N = near-limit options o (L .earned .within)
+
+  runs-drawn : (qs : List (Run Endpoint)) → All RunIn qs → All (Few 65536) qs → Goods o W N qs
   runs-drawn [] i f = tt
-  runs-drawn (q ∷ qs) i f =
-      (run-drawn o (wide options o (L .earned .within)) (near-limit options o (L .earned .within)) (q .closed) (q .points) (f .0) (i .0), runs-drawn qs (i .1) (f .1))
+  runs-drawn (q ∷ qs) i f = (run-drawn o W N (q .closed) (q .points) (f .0) (i .0), runs-drawn qs (i .1) (f .1))
 
-  all-drawn : drawn rs
+  all-drawn : Goods o W N rs
   all-drawn = runs-drawn rs (path-in verbs coords S) (runs-few 65536 0 verbs (endpointsOf 0 coords) (omega (arith, S .few)))
-
-  all-rising : (qs : List (Run Endpoint)) → drawn qs → Goods o qs
-  all-rising [] d = tt
-  all-rising (q ∷ qs) d = (d .0 .rising, all-rising qs (d .1))
-
-  all-held : isClip (o .«line_join») ≡ false → (qs : List (Run Endpoint)) → drawn qs → All Held (meshVertices o qs)
-  unfolding meshVertices
-  all-held u [] d = tt
-  all-held u (q ∷ qs) d = all-append Held (shapeVertices o (drawnOf o q)) (meshVertices o qs) (d .0 .held u) (all-held u qs (d .1))
 
   unclipped : (options .«line_join» ≡ leftOut → ⊥) → isClip (o .«line_join») ≡ false
   unclipped f = subst (λ (s : Stroke). isClip (s .«line_join») ≡ false) (accepted-options options o (L .earned .within) .1) (unfold preparedOf in (number-unclipped (options .«line_join») f))
@@ -109,17 +103,24 @@ module _ (verbs : List ℕ) (coords : List Float) (options : Options) (l : Lists
   reached : (options .«line_join» ≡ leftOut → ⊥) → (i : ℕ) → i < outcomeOf verbs coords options l .answer .vertices → Reached (outcomeOf verbs coords options l) 1892352 227 i
   reached f i h =
       let k : i < length (meshVertices o rs) = omega (arith, L .count) in
-      let v = all-at Held (meshVertices o rs) blank i (all-held (unclipped f) rs all-drawn) k in
+      let v = all-at Held (meshVertices o rs) blank i (mesh-all o W N Held (λ n vs D. all-held o W N D (unclipped f)) rs all-drawn) k in
       let s = L .reads i k in
       record { x = rw (s .x) (at-most (v .x)); y = rw (s .y) (at-most (v .y)); normal-x = rw (s .normalX) (at-most (v .normalX)); normal-y = rw (s .normalY) (at-most (v .normalY)) }
 
   advanced : (i : ℕ) → i < outcomeOf verbs coords options l .answer .vertices → AtMost (2 ^ 33) (floatAt (outcomeOf verbs coords options l) i 4)
   advanced i h =
       let k : i < length (meshVertices o rs) = omega (arith, L .count) in
-      rw (L .reads i k .advancement) (all-at (λ (v : Vertex). AtMost (2 ^ 33) (v .advancement)) (meshVertices o rs) blank i (mesh-finite o rs (all-rising rs all-drawn)) k)
+      let f = all-at (λ (v : Vertex). From 0 (v .advancement)) (meshVertices o rs) blank i (mesh-all o W N (λ (v : Vertex). From 0 (v .advancement)) (λ n vs D. all-from o W N D) rs all-drawn) k in
+      rw (L .reads i k .advancement) (at-most (record { s = false; size = f .units; value = f .value; within = f .most }))
+
+  read : Reads o W N (outcomeOf verbs coords options l) 0 (meshVertices o rs)
+  read i h = rw zero-add (L .reads i h)
 
   falling : NoneFalls (outcomeOf verbs coords options l) o 0 rs
-  falling = none-falls o (outcomeOf verbs coords options l) 0 rs (all-rising rs all-drawn) (λ i h. rw zero-add (L .reads i h .advancement))
+  falling = none-falls o W N (outcomeOf verbs coords options l) 0 rs all-drawn read
+
+  long : AllLong (outcomeOf verbs coords options l) o 0 rs
+  long = all-long o W N (outcomeOf verbs coords options l) 0 rs all-drawn read
 
 -- ---- as tight as it is proved, and "at most 4,194,304 in size"
 pub proved : Proved
@@ -132,3 +133,7 @@ asked verbs coords options l e f i h =
 
 pub advances : Advances
 advances verbs coords options l e = (advanced verbs coords options l e, falling verbs coords options l e)
+
+-- ---- W-209's arcs
+pub arcs-long : ArcsLong
+arcs-long verbs coords options l e = long verbs coords options l e

@@ -9,9 +9,10 @@ use lib.Ieee.{Float, binary32, mul, le, ofBits}
 use lib.Ieee.Fits.{and-l, and-r}
 use lib.Ieee.Exact.{HasValue}
 use lib.Ieee.Positive.{num, den, den-pos, positive, between, own-value, le→cross}
+use Rattle.plane.specs.F32.{f32}
 use Rattle.options.specs.Options.{within, widthIn, lineCapOf, clipOf, preparedOf, accepting, strokeOf}
 use Rattle.options.specs.declared.LineCap.{LineCap}
-use Rattle.options.specs.declared.LineCap.the-variants.{Butt, Square}
+use Rattle.options.specs.declared.LineCap.the-variants.{Butt, Square, Round}
 use Rattle.options.specs.declared.Options.{Options}
 use Rattle.options.specs.declared.Stroke.{Stroke}
 use Rattle.rounding.proofs.Rounding.{rounded}
@@ -34,6 +35,10 @@ pub record Part {h : Float} (W : Width h) (z : Float) : Type 0 where
 
 pub itself : {h : Float} (W : Width h) → Part W h
 itself W = record { size = W .size; value = W .value; high = omega arith }
+
+none : {h : Float} (W : Width h) → Part W (f32 0)
+unfolding ofBits one
+none W = record { size = 0; value = (refl, refl); high = omega arith }
 
 -- ---- half of a width from 1/256 to 16,384
 halved : (w : Float) → T (positive w) → den w ≤ 256 * num w → num w ≤ 16384 * den w → Width (mul binary32 w (ofBits binary32 0x3f000000))
@@ -77,9 +82,9 @@ width-halved w t =
 
 -- ---- of accepted options
 clip-part : (cap : LineCap) {h : Float} (W : Width h) → Part W (clipOf cap h)
-unfolding ofBits one
-clip-part Butt W = record { size = 0; value = (refl, refl); high = omega arith }
+clip-part Butt W = none W
 clip-part Square W = itself W
+clip-part Round W = none W
 
 pub record Wide (o : Stroke) : Type 0 where
   pub half : Width (o .«half_width»)

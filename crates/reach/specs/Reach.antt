@@ -14,7 +14,9 @@ use Rattle.options.specs.declared.Options.{Options}
 use Rattle.options.specs.declared.Stroke.{Stroke}
 use Rattle.path.specs.Runs.{Run}
 use Rattle.pieces.specs.Piece.{Lists}
-use Rattle.run.specs.Run.{shapeCount}
+use Rattle.joints.specs.Joint.{jointsOf}
+use Rattle.strip.specs.Joint.{vertexCount}
+use Rattle.run.specs.Run.{Shape, nothing, emptyCap, along, roundCap, roundAlong, shapeCount}
 use Rattle.runs.specs.Runs.{runsOf, drawnOf}
 use Rattle.mesh.specs.Mesh.{Outcome, outcomeOf}
 
@@ -56,7 +58,7 @@ Asked = Within 4194304 257
 abbrev pub Proved : Type 0
 Proved = Within 1892352 227
 
--- ---- advancements, with any join: finite, and none falls along a run
+-- ---- advancements, with any join: finite, and none falls along a run's own vertices, which its arcs' stand behind
 pub record NoFall (a b : Float) : Type 0 where
   pub first : ℕ
   pub second : ℕ
@@ -64,11 +66,19 @@ pub record NoFall (a b : Float) : Type 0 where
   pub second-is : HasValue b false second (2 ^ 149)
   pub rises : first ≤ second
 
+-- W-209: "In a run arc vertices are numbered last, as written, with their centre's advancement": how many stand before them
+abbrev pub baseCount : Shape → ℕ
+baseCount nothing = 0
+baseCount (emptyCap p) = 4
+baseCount (along js) = vertexCount js
+baseCount (roundCap o p) = 4
+baseCount (roundAlong closed o p q ks) = vertexCount (jointsOf closed o (p ∷ q ∷ ks))
+
 -- run by run, from the run's first vertex on
 abbrev pub NoneFalls : Outcome → Stroke → ℕ → List (Run Endpoint) → Type 0
 NoneFalls out o base [] = Unit {0}
 NoneFalls out o base (r ∷ rs) =
-    let n = shapeCount (drawnOf o r) in ((i : ℕ) → i + 1 < n → NoFall (floatAt out (base + i) 4) (floatAt out (base + i + 1) 4)) × NoneFalls out o (base + n) rs
+    let s = drawnOf o r in ((i : ℕ) → i + 1 < baseCount s → NoFall (floatAt out (base + i) 4) (floatAt out (base + i + 1) 4)) × NoneFalls out o (base + shapeCount s) rs
 
 abbrev pub Advances : Type 0
 Advances =
