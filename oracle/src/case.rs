@@ -232,6 +232,7 @@ fn options(words: &mut Words) -> Option<Options> {
         join: words.number(255)? as u8,
         cap: words.number(255)? as u8,
         merge: words.float()?,
+        detail: words.number(255)? as u8,
     })
 }
 
@@ -242,6 +243,7 @@ fn options_line(kind: &str, options: &Options) -> Line {
         .number(usize::from(options.join))
         .number(usize::from(options.cap))
         .float(options.merge)
+        .number(usize::from(options.detail))
 }
 
 fn mesh(words: &mut Words) -> Option<MeshCase> {

@@ -17,15 +17,36 @@ pub enum LineJoin {
     Miter,
     MiterClip,
     Bevel,
+    Round,
 }
 
 impl LineJoin {
-    /// Options: "join 0 Miter, 1 MiterClip, 2 Bevel".
+    /// Options: "join 0 Miter, 1 MiterClip, 2 Bevel"; W-209: "join 3 Round".
     pub fn of(number: u8) -> Option<LineJoin> {
         match number {
             0 => Some(LineJoin::Miter),
             1 => Some(LineJoin::MiterClip),
             2 => Some(LineJoin::Bevel),
+            3 => Some(LineJoin::Round),
+            _ => None,
+        }
+    }
+}
+
+#[derive(Clone, Copy, Debug, PartialEq, Eq)]
+pub enum Cap {
+    Butt,
+    Square,
+    Round,
+}
+
+impl Cap {
+    /// Options: "cap 0 Butt, 1 Square"; W-209: "cap 2 Round".
+    pub fn of(number: u8) -> Option<Cap> {
+        match number {
+            0 => Some(Cap::Butt),
+            1 => Some(Cap::Square),
+            2 => Some(Cap::Round),
             _ => None,
         }
     }

@@ -89,14 +89,7 @@ struct Worked {
 
 /// Works both sides of a join, the record handed back with its sides, folds and inner side.
 pub fn work(prev: &Endpoint, join: &Endpoint, next: &Endpoint, limit: f32) -> Endpoint {
-    let h = join.half_width;
-    let corner = Corner {
-        prev,
-        join,
-        next,
-        before: Edge::new(prev.position, join.position, h),
-        after: Edge::new(join.position, next.position, h),
-    };
+    let corner = Corner::of(prev, join, next);
     let mut worked = *join;
     for side in [POSITIVE, NEGATIVE] {
         let one = corner.side(limit, side);
@@ -109,7 +102,24 @@ pub fn work(prev: &Endpoint, join: &Endpoint, next: &Endpoint, limit: f32) -> En
     worked
 }
 
+/// Whether each side is an inner join: the record keeps only one of them.
+pub fn inner_sides(prev: &Endpoint, join: &Endpoint, next: &Endpoint, limit: f32) -> [bool; 2] {
+    let corner = Corner::of(prev, join, next);
+    [POSITIVE, NEGATIVE].map(|side| corner.side(limit, side).inner)
+}
+
 impl Corner<'_> {
+    fn of<'a>(prev: &'a Endpoint, join: &'a Endpoint, next: &'a Endpoint) -> Corner<'a> {
+        let h = join.half_width;
+        Corner {
+            prev,
+            join,
+            next,
+            before: Edge::new(prev.position, join.position, h),
+            after: Edge::new(join.position, next.position, h),
+        }
+    }
+
     fn side(&self, limit: f32, side: usize) -> Worked {
         let turn = self.turn(side);
         let overshoots = turn.inward && self.tip_overshoots(&turn);

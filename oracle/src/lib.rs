@@ -2,11 +2,12 @@
 //! of the five listed routines, both run in the same driver.
 //!
 //! From the leaves up: `plane`, `root`, `normal`, `endpoint`, `window`, `edge`, `join`,
-//! `vertices` (the reading of the routines), `routines` (what the driver asks of them), `path`,
-//! `strip`, `mesh`, `part` (the driver), `decimal`, `reader`, `program`, `stl`, `widths`, `inspect`. `shim` and `text` hold the cut text.
+//! `vertices` (the reading of the routines), `arc`, `routines` (what the driver asks of them),
+//! `path`, `strip`, `mesh`, `part` (the driver), `decimal`, `reader`, `program`, `stl`, `widths`, `inspect`. `shim` and `text` hold the cut text.
 //! `line`, `case`, `answer` are the cases and answers, `gen` makes cases.
 
 pub mod answer;
+pub mod arc;
 pub mod case;
 pub mod decimal;
 pub mod edge;

@@ -1,7 +1,7 @@
 //! The mesh call: path and options in, three lent lists filled, refusals 1 to 4, 6 and 7 in their order.
 //! W-207 retired 5.
 
-use crate::endpoint::LineJoin;
+use crate::endpoint::{Cap, LineJoin};
 use crate::outcome::{Outcome, Refusal};
 use crate::path::Path;
 use crate::routines::Routines;
@@ -16,12 +16,16 @@ pub struct Options {
     pub join: u8,
     pub cap: u8,
     pub merge: f32,
+    /// W-209: the arc detail k.
+    pub detail: u8,
 }
 
 pub const WIDTHS: (f32, f32) = (1.0 / 256.0, 16_384.0);
 pub const LIMITS: (f32, f32) = (1.0, 1024.0);
 /// W-201: "The fixed 1/128 becomes an option from 1/128 to 1."
 pub const MERGES: (f32, f32) = (1.0 / 128.0, 1.0);
+/// W-209: "an arc detail k from 0 to 6".
+pub const MOST_DETAIL: u8 = 6;
 
 /// Options once checked, in the words of the rules.
 #[derive(Clone, Copy, Debug)]
@@ -29,11 +33,12 @@ pub struct Stroke {
     pub half_width: f32,
     pub limit: f32,
     pub join: LineJoin,
-    pub square: bool,
-    /// Rule 7: "clip is h for Square and 0 for Butt".
+    pub cap: Cap,
+    /// Rule 7: "clip is h for Square and 0 for Butt"; W-209: a round cap "has clip 0".
     pub clip: f32,
     /// W-201: the merge "range squared in f32".
     pub near: f32,
+    pub detail: u8,
 }
 
 impl Options {
@@ -43,14 +48,15 @@ impl Options {
         let floats =
             within(self.width, WIDTHS) && within(self.limit, LIMITS) && within(self.merge, MERGES);
         let half_width = self.width * 0.5;
-        match LineJoin::of(self.join) {
-            Some(join) if floats && self.cap <= 1 => Ok(Stroke {
+        match (LineJoin::of(self.join), Cap::of(self.cap)) {
+            (Some(join), Some(cap)) if floats && self.detail <= MOST_DETAIL => Ok(Stroke {
                 half_width,
                 limit: self.limit,
                 join,
-                square: self.cap == 1,
-                clip: if self.cap == 1 { half_width } else { 0.0 },
+                cap,
+                clip: if cap == Cap::Square { half_width } else { 0.0 },
                 near: self.merge * self.merge,
+                detail: self.detail,
             }),
             _ => Err(Refusal {
                 number: 1,

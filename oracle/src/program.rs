@@ -13,6 +13,7 @@ const OPTIONS: Options = Options {
     join: 0,
     cap: 0,
     merge: 1.0 / 128.0,
+    detail: 0,
 };
 
 /// W-205: "the program keeps its buffers and gives 8 above 16,384 bytes"

@@ -27,6 +27,12 @@ impl Mesh {
         number
     }
 
+    /// A vertex's normal, as written.
+    pub fn normal(&self, id: VertexId) -> Vector {
+        let [_, _, x, y, _] = self.vertices[id.0 as usize];
+        vector(x, y)
+    }
+
     pub fn add_triangle(&mut self, corners: [VertexId; 3]) {
         self.triangles.push(corners.map(|corner| corner.0));
     }

@@ -74,6 +74,7 @@ impl Lists {
             options.join.into(),
             options.cap.into(),
             options.merge,
+            options.detail.into(),
             self.vertices.ours(),
             self.sources.ours(),
             self.triangles.ours(),
@@ -110,6 +111,7 @@ impl Lists {
             options.join.into(),
             options.cap.into(),
             options.merge,
+            options.detail.into(),
             self.answer.ours(),
         );
         let path = Path {
@@ -147,6 +149,7 @@ impl Lists {
             options.join.into(),
             options.cap.into(),
             options.merge,
+            options.detail.into(),
             case.run,
             self.vertices.ours(),
             self.answer.ours(),

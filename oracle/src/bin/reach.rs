@@ -1,16 +1,16 @@
 //! `reach SEED COUNT`: W-214's search, at the limits' corners. Each of that many corners, an open
-//! run of three points with square caps, is worked with each join, and the greatest x or y that
-//! rule 8 writes is kept, with the corner that gave it. Ends with 1 where Miter or Bevel reach
-//! beyond what is proved.
+//! run of three points with square caps, is drawn with each join, and the greatest x or y that is
+//! written is kept, with the corner that gave it. Ends with 1 where a join but MiterClip reaches
+//! beyond what is proved of the others.
 
-use oracle::endpoint::LineJoin;
+use oracle::endpoint::{Cap, LineJoin};
 use oracle::gen::{ulps, Rng};
 use oracle::mesh::{Stroke, LIMITS, MERGES, WIDTHS};
 use oracle::path::{are_near, Run};
 use oracle::plane::{point, Point};
 use oracle::routines::Reading;
-use oracle::strip::joints;
-use oracle::vertices::{write_joint, Mesh};
+use oracle::strip::write_run;
+use oracle::vertices::Mesh;
 use std::env;
 use std::f32::consts::{FRAC_PI_2, PI};
 use std::process::ExitCode;
@@ -23,7 +23,14 @@ const PROVED: f32 = 1_892_352.0;
 const CLIMB: u64 = 250_000;
 /// The least merge range, squared.
 const NEAR: f32 = MERGES.0 * MERGES.0;
-const JOINS: [LineJoin; 3] = [LineJoin::Miter, LineJoin::Bevel, LineJoin::MiterClip];
+const JOINS: [LineJoin; 4] = [
+    LineJoin::Miter,
+    LineJoin::Bevel,
+    LineJoin::Round,
+    LineJoin::MiterClip,
+];
+/// Arcs of three vertices: finer ones have their vertices between these.
+const DETAIL: u8 = 2;
 
 /// A point with the one before it and the one behind it.
 #[derive(Clone, Copy)]
@@ -56,7 +63,7 @@ fn main() -> ExitCode {
 
 fn search(seed: u64, count: u64) -> ExitCode {
     let mut rng = Rng::new(seed);
-    let mut greatest = [None; 3];
+    let mut greatest = [None; JOINS.len()];
     let mut mesh = Mesh::default();
     let mut left = count;
     while left > 0 {
@@ -66,7 +73,7 @@ fn search(seed: u64, count: u64) -> ExitCode {
             *greatest = greater(*greatest, found);
         }
     }
-    println!("{} corners, each with three joins", count);
+    println!("{} corners, each with four joins", count);
     for (join, found) in JOINS.into_iter().zip(greatest) {
         if let Some(f) = found {
             println!(
@@ -81,7 +88,7 @@ fn search(seed: u64, count: u64) -> ExitCode {
         }
     }
     let beyond = |found: &Option<Found>| found.map_or(false, |f| f.reach > PROVED);
-    ExitCode::from(u8::from(greatest[..2].iter().any(beyond)))
+    ExitCode::from(u8::from(greatest[..JOINS.len() - 1].iter().any(beyond)))
 }
 
 fn greater(a: Option<Found>, b: Option<Found>) -> Option<Found> {
@@ -93,11 +100,11 @@ fn greater(a: Option<Found>, b: Option<Found>) -> Option<Found> {
 }
 
 /// The greatest of so many corners, of which one in four is near the greatest so far.
-fn climb(rng: &mut Rng, count: u64, mesh: &mut Mesh) -> [Option<Found>; 3] {
-    let mut greatest: [Option<Found>; 3] = [None; 3];
+fn climb(rng: &mut Rng, count: u64, mesh: &mut Mesh) -> [Option<Found>; JOINS.len()] {
+    let mut greatest: [Option<Found>; JOINS.len()] = [None; JOINS.len()];
     let mut worked = 0;
     while worked < count {
-        let corner = match greatest[rng.below(3)] {
+        let corner = match greatest[rng.below(JOINS.len())] {
             Some(found) if rng.one_in(4) => about(rng, found.corner),
             _ => any(rng),
         };
@@ -135,15 +142,15 @@ impl Corner {
             half_width: self.half_width,
             limit: self.limit,
             join,
-            square: true,
+            cap: Cap::Square,
             clip: self.half_width,
             near: NEAR,
+            detail: DETAIL,
         };
         mesh.vertices.clear();
         mesh.sources.clear();
-        for joint in joints::<Reading>(&run, &stroke) {
-            write_joint(&joint, mesh);
-        }
+        mesh.triangles.clear();
+        write_run::<Reading>(&run, &stroke, mesh);
         let most = |from: usize| {
             let sizes = mesh
                 .vertices

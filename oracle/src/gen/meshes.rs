@@ -3,7 +3,7 @@
 use super::paths::{long_path, options, path};
 use super::rng::{ulps, Rng};
 use crate::case::{MeshCase, MAX_TRIANGLE_LIST, MAX_VERTEX_LIST};
-use crate::mesh::{drawn, LIMITS, MERGES, WIDTHS};
+use crate::mesh::{drawn, LIMITS, MERGES, MOST_DETAIL, WIDTHS};
 use crate::path::{Path, BEGIN, END_OPEN, LINE, MAX_COORDINATE, MAX_VERBS};
 use crate::routines::Reading;
 use crate::vertices::Mesh;
@@ -53,12 +53,13 @@ fn spoil_option(rng: &mut Rng, case: &mut MeshCase) {
             f32::from_bits(1),
         ])
     };
-    match rng.below(5) {
+    match rng.below(6) {
         0 => case.options.width = beyond(rng, WIDTHS),
         1 => case.options.limit = beyond(rng, LIMITS),
         2 => case.options.merge = beyond(rng, MERGES),
-        3 => case.options.join = rng.pick(&[3, 4, 128, 255]),
-        _ => case.options.cap = rng.pick(&[2, 3, 128, 255]),
+        3 => case.options.join = rng.pick(&[4, 5, 128, 255]),
+        4 => case.options.cap = rng.pick(&[3, 4, 128, 255]),
+        _ => case.options.detail = rng.pick(&[7, 8, 128, 255]),
     }
 }
 
@@ -159,7 +160,11 @@ fn lend(rng: &mut Rng, case: &mut MeshCase) {
         }
     });
     let (floats, numbers) = (5 * mesh.vertices.len(), 3 * mesh.triangles.len());
+    // So many to a point do for any path, of which one is then left out, or none.
+    let plenty = (4 << case.options.detail.min(MOST_DETAIL)) * (case.coordinates.len() / 2);
+    let is_plenty = rng.one_in(17);
     let (vertex_len, triangle_len) = match rng.below(16) {
+        _ if is_plenty => (5 * plenty - rng.below(plenty.min(1) + 1), 3 * plenty),
         0..=4 => (floats, numbers),
         5 => (floats.saturating_sub(1), numbers),
         6 => (floats.saturating_sub(5), numbers + rng.below(4)),
@@ -175,6 +180,8 @@ fn lend(rng: &mut Rng, case: &mut MeshCase) {
     };
     let count = mesh.vertices.len();
     let source_len = match rng.below(12) {
+        0 if is_plenty => plenty.saturating_sub(1),
+        _ if is_plenty => plenty,
         0 | 1 => count.saturating_sub(1),
         2 => count + 1,
         3 => count + rng.below(60),

@@ -93,10 +93,16 @@ pub fn options(rng: &mut Rng, drawn: &Drawn) -> Options {
     Options {
         width: width(rng, drawn),
         limit: limit(rng, drawn),
-        join: rng.below(3) as u8,
-        cap: rng.below(2) as u8,
+        join: rng.below(4) as u8,
+        cap: rng.below(3) as u8,
         merge: drawn.merge,
+        detail: detail(rng),
     }
+}
+
+/// Mostly small: a mesh grows with its power of two.
+fn detail(rng: &mut Rng) -> u8 {
+    rng.below(7).min(rng.below(7)) as u8
 }
 
 /// At and inside the limits, and of every size. A range that is no power of two has a square

@@ -10,11 +10,13 @@ use oracle::Judge;
 pub const MITER: u8 = 0;
 pub const MITER_CLIP: u8 = 1;
 pub const BEVEL: u8 = 2;
+pub const ROUND: u8 = 3;
 pub const BUTT: u8 = 0;
 pub const SQUARE: u8 = 1;
+pub const ROUND_CAP: u8 = 2;
 
 /// Room that is plenty for every path written by hand.
-pub const PLENTY: (usize, usize, usize) = (500, 100, 300);
+pub const PLENTY: (usize, usize, usize) = (2_000, 400, 1_200);
 
 pub type Run<'a> = (&'a [(f32, f32)], bool);
 
@@ -25,6 +27,7 @@ pub fn options(width: f32, limit: f32, join: u8, cap: u8) -> Options {
         join,
         cap,
         merge: 1.0 / 128.0,
+        detail: 0,
     }
 }
 

@@ -3,15 +3,16 @@
 
 use oracle::case::{Case, MeshCase};
 use oracle::edge::Edge;
-use oracle::endpoint::Points;
+use oracle::endpoint::{Cap, LineJoin, Points};
 use oracle::gen::{case, Kind, Rng};
 use oracle::line::{filled_floats, filled_numbers};
 use oracle::mesh::{drawn, mesh, Stroke};
 use oracle::outcome::Outcome;
 use oracle::path::{Path, Run};
-use oracle::strip::{endpoints, joints};
+use oracle::strip::{bends, endpoints};
 use oracle::vertices::Mesh;
 use oracle::Judge;
+use std::collections::HashMap;
 
 fn generated(seed: u64, count: usize) -> impl Iterator<Item = MeshCase> {
     let mut rng = Rng::new(seed);
@@ -28,25 +29,39 @@ fn path(case: &MeshCase) -> Path<'_> {
     }
 }
 
-/// What document 01 says of a run's vertices and triangles, from n and d.
+/// What document 01 says of a run's vertices and triangles, from n and d, and W-209 of its arcs.
 fn counts(run: &Run, stroke: &Stroke) -> (usize, usize) {
     let n = run.kept.len();
     if n == 1 {
-        let drawn = stroke.square && (run.closed || run.has_line);
-        return if drawn { (4, 2) } else { (0, 0) };
+        return match stroke.cap {
+            Cap::Square if run.closed || run.has_line => (4, 2),
+            Cap::Round if run.closed || run.has_line => {
+                (4 << stroke.detail, (4 << stroke.detail) - 2)
+            }
+            _ => (0, 0),
+        };
     }
-    let joints = joints::<Judge>(run, stroke);
-    let sides = joints.iter().flat_map(|joint| joint.sides);
+    let bends = bends::<Judge>(run, stroke);
+    let sides = bends.iter().flat_map(|bend| bend.joint.sides);
     let d = sides.filter(|s| matches!(s, Points::Pair(..))).count();
+    let on_sides = bends.iter().flat_map(|bend| bend.arcs);
+    let caps = !run.closed && stroke.cap == Cap::Round;
+    let arcs = on_sides.filter(|&arc| arc).count() * ((1 << stroke.detail) - 1)
+        + if caps {
+            2 * ((2 << stroke.detail) - 1)
+        } else {
+            0
+        };
     match run.closed {
-        true => (2 * n + d, 2 * n + d),
-        false => (2 * n + d, 2 * (n - 1) + d),
+        true => (2 * n + d + arcs, 2 * n + d + arcs),
+        false => (2 * n + d + arcs, 2 * (n - 1) + d + arcs),
     }
 }
 
 /// Each triangle has three different vertices of its run, every vertex is named, and each
-/// triangle but the first shares exactly two vertices with the one before.
-fn check_ladder(triangles: &[[u32; 3]], first: usize, vertices: usize) {
+/// triangle but the first shares exactly two vertices with the one before or, where there may be
+/// arcs, with some earlier one.
+fn check_ladder(triangles: &[[u32; 3]], first: usize, vertices: usize, arcs: bool) {
     let mut named = vec![false; vertices];
     for &[a, b, c] in triangles {
         assert!(a != b && b != c && a != c);
@@ -55,18 +70,46 @@ fn check_ladder(triangles: &[[u32; 3]], first: usize, vertices: usize) {
         }
     }
     assert!(named.into_iter().all(|named| named));
+    if arcs {
+        return check_attached(triangles);
+    }
     for pair in triangles.windows(2) {
         let shared = pair[0].iter().filter(|corner| pair[1].contains(corner));
         assert_eq!(shared.count(), 2);
     }
 }
 
-fn check_floats(mesh: &Mesh) {
+/// W-209: "with some earlier triangle of the run".
+fn check_attached(triangles: &[[u32; 3]]) {
+    // The triangles that have an edge, by its ends.
+    let mut edges: HashMap<[u32; 2], Vec<usize>> = HashMap::new();
+    for (i, &[a, b, c]) in triangles.iter().enumerate() {
+        let sides = [[a, b], [b, c], [a, c]].map(|[p, q]| [p.min(q), p.max(q)]);
+        let attached = sides.iter().any(|side| {
+            edges.get(side).map_or(false, |before| {
+                let other = |&j: &usize| {
+                    triangles[j]
+                        .iter()
+                        .filter(|v| ![a, b, c].contains(v))
+                        .count()
+                };
+                before.iter().any(|j| other(j) == 1)
+            })
+        });
+        assert!(i == 0 || attached);
+        for side in sides {
+            edges.entry(side).or_default().push(i);
+        }
+    }
+}
+
+/// The sign of a zero is a plus, but for an arc about a point whose own is a minus.
+fn check_floats(mesh: &Mesh, arcs: bool) {
     for vertex in &mesh.vertices {
         assert!(vertex.iter().all(|float| float.is_finite()));
         assert!(vertex[..2]
             .iter()
-            .all(|&c| c != 0.0 || c.is_sign_positive()));
+            .all(|&c| arcs || c != 0.0 || c.is_sign_positive()));
     }
 }
 
@@ -79,13 +122,14 @@ fn meshes_are_ladders() {
             Err(_) => continue,
         };
         accepted += 1;
-        check_floats(&mesh);
         let stroke = case.options.check().expect("accepted options");
+        let arcs = stroke.join == LineJoin::Round || stroke.cap == Cap::Round;
+        check_floats(&mesh, arcs);
         let (mut vertex, mut triangle) = (0, 0);
         for run in path(&case).runs(stroke.near) {
             let (vertices, triangles) = counts(&run, &stroke);
             let of_run = &mesh.triangles[triangle..triangle + triangles];
-            check_ladder(of_run, vertex, vertices);
+            check_ladder(of_run, vertex, vertices, arcs);
             vertex += vertices;
             triangle += triangles;
         }

@@ -16,6 +16,7 @@ mod points;
 mod reader;
 mod refusals;
 mod root;
+mod round;
 mod rules;
 mod sources;
 mod stl;

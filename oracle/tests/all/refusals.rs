@@ -17,6 +17,7 @@ const GOOD: Options = Options {
     join: 0,
     cap: 0,
     merge: 1.0 / 128.0,
+    detail: 0,
 };
 
 #[test]
@@ -67,8 +68,13 @@ fn options_at_and_beyond_their_limits() {
             cap: number,
             ..GOOD
         };
-        assert_eq!(with(join).0, u32::from(number > 2));
-        assert_eq!(with(cap).0, u32::from(number > 1));
+        let detail = Options {
+            detail: number,
+            ..GOOD
+        };
+        assert_eq!(with(join).0, u32::from(number > 3));
+        assert_eq!(with(cap).0, u32::from(number > 2));
+        assert_eq!(with(detail).0, u32::from(number > 6));
     }
 }
 

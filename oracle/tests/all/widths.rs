@@ -15,6 +15,7 @@ const OPTIONS: Options = Options {
     join: 0,
     cap: 0,
     merge: 1.0 / 128.0,
+    detail: 0,
 };
 
 fn refused(number: u32, place: usize) -> Result<usize, Refusal> {
@@ -99,7 +100,7 @@ fn the_program_keeps_its_buffers() {
 fn big_cases_reach_the_limits() {
     let mut rng = Rng::new(1);
     let (mut verbs, mut bytes) = ([false; 3], [false; 3]);
-    for _ in 0..60 {
+    for _ in 0..90 {
         match big(&mut rng) {
             Case::Mesh(case) => verbs[case.verbs.len() - 65_535] = true,
             Case::Read(case) if case.text.len() >= 1_048_575 => {

@@ -61,7 +61,7 @@ fn main() {
         let Input { verbs, coords } = input(kind, points);
         let mut answer = [0usize; 3];
         let mut ours = |v: &mut [f32], s: &mut [u32], t: &mut [u32]| {
-            let (width, limit, join, cap) = (2.0, 4.0, 0, 0);
+            let (width, limit, join, cap, detail) = (2.0, 4.0, 0, 0, 0);
             let number = raw::tessellate(
                 &verbs,
                 &coords,
@@ -70,6 +70,7 @@ fn main() {
                 join,
                 cap,
                 MERGE,
+                detail,
                 v,
                 s,
                 t,
@@ -95,6 +96,7 @@ fn main() {
             join: 0,
             cap: 0,
             merge: MERGE,
+            detail: 0,
         };
         let oracle = best(points, || {
             let path = Path {
