@@ -1,6 +1,6 @@
 /* A deck of any size that the library takes, in C: path text on standard input; the page of its mesh, or one refusal, on standard output, as examples/stripe.c prints it.
    The mesh is measured first, and just the room that it needs is allocated. The exit status is that of examples/stripe.c.
-   usage: large [WIDTH LIMIT JOIN CAP MERGE]; without options those of ./stripe. */
+   usage: large [WIDTH LIMIT JOIN CAP MERGE DETAIL]; without options those of ./stripe. */
 #include <inttypes.h>
 #include <stdio.h>
 #include <stdlib.h>
@@ -10,7 +10,7 @@
 
 struct options {
     float width, limit, merge;
-    uint32_t join, cap;
+    uint32_t join, cap, detail;
 };
 
 struct mesh {
@@ -38,14 +38,14 @@ static void *room(size_t n, size_t size)
 /* A mesh in lists of just its room: what was measured is never refused for want of it. */
 static uint32_t stroke(const uint8_t *verbs, const float *coords, const size_t *path, struct options o, struct mesh *m)
 {
-    uint32_t number = stipeharbor_measure(verbs, path[1], coords, path[2], o.width, o.limit, o.join, o.cap, o.merge, m->answer, 3);
+    uint32_t number = stipeharbor_measure(verbs, path[1], coords, path[2], o.width, o.limit, o.join, o.cap, o.merge, o.detail, m->answer, 3);
     if (number != STIPEHARBOR_ACCEPTED)
         return number;
     size_t n = m->answer[1], t = m->answer[2];
     m->vertices = room(5 * n, sizeof *m->vertices);
     m->sources = room(n, sizeof *m->sources);
     m->triangles = room(3 * t, sizeof *m->triangles);
-    return stipeharbor_tessellate(verbs, path[1], coords, path[2], o.width, o.limit, o.join, o.cap, o.merge, m->vertices, 5 * n, m->sources, n, m->triangles, 3 * t, m->answer, 3);
+    return stipeharbor_tessellate(verbs, path[1], coords, path[2], o.width, o.limit, o.join, o.cap, o.merge, o.detail, m->vertices, 5 * n, m->sources, n, m->triangles, 3 * t, m->answer, 3);
 }
 
 /* The number of the answer; the lists are as long as the mesh asks for. */
@@ -78,11 +78,12 @@ static void print_mesh(const struct mesh *m)
 
 int main(int argc, char **argv)
 {
-    struct options o = {2.0f, 4.0f, STIPEHARBOR_MERGE_RANGE_LEAST, STIPEHARBOR_MITER, STIPEHARBOR_BUTT};
-    if (argc == 6)
-        o = (struct options){strtof(argv[1], NULL), strtof(argv[2], NULL), strtof(argv[5], NULL), (uint32_t)strtoul(argv[3], NULL, 10), (uint32_t)strtoul(argv[4], NULL, 10)};
+    struct options o = {2.0f, 4.0f, STIPEHARBOR_MERGE_RANGE_LEAST, STIPEHARBOR_MITER, STIPEHARBOR_BUTT, 0};
+    if (argc == 7)
+        o = (struct options){strtof(argv[1], NULL), strtof(argv[2], NULL), strtof(argv[5], NULL), (uint32_t)strtoul(argv[3], NULL, 10), (uint32_t)strtoul(argv[4], NULL, 10),
+                             (uint32_t)strtoul(argv[6], NULL, 10)};
     else if (argc != 1)
-        return failed("usage: large [WIDTH LIMIT JOIN CAP MERGE]");
+        return failed("usage: large [WIDTH LIMIT JOIN CAP MERGE DETAIL]");
     struct mesh m = {NULL, NULL, NULL, {0, 0, 0}};
     /* One byte more than a text may have: what comes after it changes nothing. */
     uint8_t *text = room(STIPEHARBOR_TEXT_LIMIT + 1, 1);

@@ -7,7 +7,7 @@
  * needs memcpy and memset at most.
  *
  * Freestanding use needs <stddef.h> and <stdint.h> alone, which every compiler has, and these symbols of the archive for each machine (tools/native prints them): memcpy and memset on 64-bit machines; memcpy, memset and
- * __aeabi_uldivmod on 32-bit Arm Linux; __aeabi_memcpy, __aeabi_memcpy8, __aeabi_memclr, __aeabi_memclr4 and __aeabi_uldivmod on a bare Cortex-M, which libgcc with newlib, or compiler-rt, have. Floats are to be rounded to nearest
+ * __aeabi_uldivmod on 32-bit Arm Linux; __aeabi_memcpy, __aeabi_memcpy4, __aeabi_memcpy8, __aeabi_memmove, __aeabi_memclr, __aeabi_memclr4 and __aeabi_uldivmod on a bare Cortex-M, which libgcc with newlib, or compiler-rt, have. Floats are to be rounded to nearest
  * and subnormals kept, as a processor does from its start. In C++ the calls are the same, by the extern "C" below.
  *
  * Each call returns 0 or the number of one refusal. A refusal leaves every list as it was, but for the last one, the answer's own (and those of the radio, where its calls say so). That one is written as
@@ -22,7 +22,7 @@
 /* The version of this header and of the archive that goes with it. Before 1.0.0 MINOR grows where a program that keeps to this header has to be looked at again: a call has other parameters, a number another
  * meaning, an input another answer; PATCH where something is only added. From 1.0.0 on MAJOR and MINOR do so. CHANGELOG.md says what changed. */
 #define STIPEHARBOR_VERSION_MAJOR 0
-#define STIPEHARBOR_VERSION_MINOR 10
+#define STIPEHARBOR_VERSION_MINOR 11
 #define STIPEHARBOR_VERSION_PATCH 0
 
 #ifdef __cplusplus
@@ -64,15 +64,17 @@ enum stipeharbor_number {
 #define STIPEHARBOR_END_OPEN 2
 #define STIPEHARBOR_END_CLOSED 3
 
-/* Line joins: a tip, or beyond the limit a bevel; a tip, or beyond the limit one that is cut off there; the corner cut straight across.
+/* Line joins: a tip, or beyond the limit a bevel; a tip, or beyond the limit one that is cut off there; the corner cut straight across; an arc about the point.
  * A path that runs back along itself has no tip: it is beyond every limit. */
 #define STIPEHARBOR_MITER 0
 #define STIPEHARBOR_MITER_CLIP 1
 #define STIPEHARBOR_BEVEL 2
+#define STIPEHARBOR_ROUND_JOIN 3
 
-/* Line caps: the end at the point, or half a width beyond it. */
+/* Line caps: the end at the point, half a width beyond it, or half a circle about it. */
 #define STIPEHARBOR_BUTT 0
 #define STIPEHARBOR_SQUARE 1
+#define STIPEHARBOR_ROUND_CAP 2
 
 /* Limits, all of them included. */
 #define STIPEHARBOR_VERB_LIMIT 65536
@@ -87,6 +89,8 @@ enum stipeharbor_number {
 #define STIPEHARBOR_MITER_LIMIT_MOST 1024.0f
 #define STIPEHARBOR_MERGE_RANGE_LEAST 0.0078125f
 #define STIPEHARBOR_MERGE_RANGE_MOST 1.0f
+/* How fine an arc may be; the least is 0. */
+#define STIPEHARBOR_DETAIL_MOST 6
 
 /* What a renderer gets, by one join: the path (0,0), (4,0), (4,4), marked +, of width 2, with Miter and Butt; y points up.
  *
@@ -107,14 +111,21 @@ enum stipeharbor_number {
  * - The advancement is the length of the run from its begin to the vertex's point, over the points that are kept; each run starts at 0. It is for what goes along the lane: dashes, arrows, a texture's coordinate.
  * - The source names the path's point, twice its number, and one more on the right-hand side: what a tap on the stripe is to be told by.
  * - The miter limit counts half widths: a tip that lies farther from its point than limit * width / 2 is beyond it. It is SVG's stroke-miterlimit.
- * - Triangles turn clockwise where y points up, and so the other way on most screens. Where the path folds, as in a bend sharper than the stripe is wide, some are turned over or lie over others: draw both faces.
- * - Four vertices and four triangles to a begin or a line are always enough, 20 floats, 4 sources and 12 numbers, and with that room the path is passed once. Or ask stipeharbor_measure first. */
+ * - Triangles turn clockwise where y points up, and so the other way on most screens. Where the path folds, as in a bend sharper than the stripe is wide, some are turned over or lie over others, and an arc on the right-hand
+ *   side of a round join turns the other way: draw both faces.
+ * - Four vertices and four triangles to a begin or a line are always enough, 20 floats, 4 sources and 12 numbers, and with that room nothing is counted before it is written. With a round join or cap that is so of
+ *   2^detail times as much. Or ask stipeharbor_measure first.
+ *
+ * Arcs, of a detail k. With STIPEHARBOR_ROUND_JOIN an arc stands on each side of a join that has two vertices, but not where the stripe overlaps there or folds: 2^k - 1 vertices and as many triangles, also where the path
+ * goes straight on. With STIPEHARBOR_ROUND_CAP each end of an open run has 2^(k+1) - 1 of each, and a point alone is a disc of 2^(k+2) vertices and two triangles fewer. An arc's vertices stand behind all
+ * others of their run, and have the advancement and the number of the point that they are about; their normals have length 1, so that each lies half a width from it, within one part in a million before its place is rounded.
+ * With k = 0 a round join is a bevel, and a round cap a triangle. */
 
-/* How far a mesh reaches. With STIPEHARBOR_MITER or STIPEHARBOR_BEVEL, either cap and any path that is accepted, every x and y that stipeharbor_tessellate writes is
+/* How far a mesh reaches. With STIPEHARBOR_MITER, STIPEHARBOR_BEVEL or STIPEHARBOR_ROUND_JOIN, any cap and any path that is accepted, every x and y that stipeharbor_tessellate writes is
  * finite and at most 4194304 in size, so that as a whole number it fits a signed 24-bit unit (-8388608 to 8388607). In fact none is beyond 1892352, and four times
  * such a number still fits. Why: a path that turns back so far that its normal would be longer than some 200 has none there; with every rounding counted a normal is at
  * most 227, and a place is a coordinate, at most 32768, and a normal times half the width, at most 8192. The miter limit plays no part. This is proved
- * (docs/PROVED.md), and so is: every advancement, with any join, is finite and does not fall along a run.
+ * (docs/PROVED.md), and so is: every advancement is finite, and does not fall along a run up to its arcs' vertices. These stand behind the others, and begin again.
  * Not so with STIPEHARBOR_MITER_CLIP: cut off at a limit of 1024 a stripe of width 16384 reaches x = 8421376, and more. There a caller tests x and y. */
 
 /* Strokes a path: a mesh at the start of `vertices` (five floats each: x, y, the normal's x and y, the advancement), of `sources` (one number to a vertex: where it
@@ -122,6 +133,7 @@ enum stipeharbor_number {
  * down; of `sources` its length. Vertex room is the smaller of the two lists'.
  * A point whose squared distance to the last one kept is below `merge_range` squared, both in floats, is left out, and so are the last ones of a closed run that
  * are so near its first. The least range leaves out what is too near to be drawn; plans traced by hand want more.
+ * `detail` is the k of arcs, 0 to STIPEHARBOR_DETAIL_MOST, whatever the join and the cap; where neither is round it changes nothing.
  * Refusals 1 to 4, 6 and 7; one leaves `vertices`, `sources` and `triangles` as they were. How much room there has to be is what stipeharbor_measure answers.
  * `answer` gets the place (of 3 and 4, else 0), the number of vertices and the number of triangles (of 0, 6 and 7, else 0). */
 uint32_t stipeharbor_tessellate(
@@ -132,6 +144,7 @@ uint32_t stipeharbor_tessellate(
     uint32_t line_join,
     uint32_t line_cap,
     float merge_range,
+    uint32_t detail,
     float *vertices, size_t vertices_len,
     uint32_t *sources, size_t sources_len,
     uint32_t *triangles, size_t triangles_len,
@@ -149,6 +162,7 @@ uint32_t stipeharbor_measure(
     uint32_t line_join,
     uint32_t line_cap,
     float merge_range,
+    uint32_t detail,
     size_t *answer, size_t answer_len);
 
 /* Finds the part of `vertices`, a list that stipeharbor_tessellate wrote for this path and these options, that the run of the number `run` wrote; runs are counted from 0
@@ -164,6 +178,7 @@ uint32_t stipeharbor_run_part(
     uint32_t line_join,
     uint32_t line_cap,
     float merge_range,
+    uint32_t detail,
     size_t run,
     const float *vertices, size_t vertices_len,
     size_t *answer, size_t answer_len);

@@ -7,7 +7,7 @@ const TEXT_LIMIT = 1048576;
 const NUMBERED = 2000;
 
 const WORDS = {
-  1: "an option is outside its range: the width is 1/256 to 16384, the limit 1 to 1024, the merge range 1/128 to 1",
+  1: "an option is outside its range: the width is 1/256 to 16384, the limit 1 to 1024, the merge range 1/128 to 1, the detail 0 to 6",
   8: "the path text is longer than 1 MiB",
   9: "from here on it is no path text",
   10: "the number that begins here is beyond 32768, or leads there",
@@ -43,7 +43,7 @@ function answerTo(text, options) {
   let number = library.stipeharbor_read(source, encoded.length, verbs, VERB_LIMIT, coords, 2 * VERB_LIMIT, answer, 3);
   if (number !== 0) return { number, place: told()[0], encoded };
   const [, verbCount, coordCount] = told();
-  const stroke = [verbs, verbCount, coords, coordCount, options.width, options.limit, options.join, options.cap, options.merge];
+  const stroke = [verbs, verbCount, coords, coordCount, options.width, options.limit, options.join, options.cap, options.merge, options.detail];
   number = library.stipeharbor_measure(...stroke, answer, 3);
   const [place, v, t] = told();
   if (number !== 0) return { number, place, encoded };
@@ -183,7 +183,7 @@ let answered;
 function renew() {
   const text = $("text").value;
   const number = (id) => parseFloat($(id).value);
-  answered = answerTo(text, { width: number("width"), limit: number("limit"), join: number("join"), cap: number("cap"), merge: number("merge") });
+  answered = answerTo(text, { width: number("width"), limit: number("limit"), join: number("join"), cap: number("cap"), merge: number("merge"), detail: number("detail") });
   draw(answered);
   mark(text, answered);
   tell(answered);

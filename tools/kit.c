@@ -23,7 +23,7 @@ static void short_answers(void)
     static const size_t told[] = {0, 4, 2};
     for (size_t length = 0; length <= 5; length++) {
         size_t answer[5] = {UNTOUCHED, UNTOUCHED, UNTOUCHED, UNTOUCHED, UNTOUCHED};
-        uint32_t number = stipeharbor_tessellate(verbs, 3, coords, 4, 2.0f, 4.0f, STIPEHARBOR_MITER, STIPEHARBOR_BUTT, STIPEHARBOR_MERGE_RANGE_LEAST,
+        uint32_t number = stipeharbor_tessellate(verbs, 3, coords, 4, 2.0f, 4.0f, STIPEHARBOR_MITER, STIPEHARBOR_BUTT, STIPEHARBOR_MERGE_RANGE_LEAST, 0,
                                                  NULL, 0, NULL, 0, NULL, 0, length ? answer : NULL, length);
         expect(number == STIPEHARBOR_VERTEX_ROOM, "want of room is told whatever the answer's length");
         for (size_t i = 0; i < 5; i++)
@@ -38,10 +38,10 @@ static void sources_told(void)
     static const float coords[] = {0.0f, 1.0f, 2.0f, 1.0f};
     float vertices[20];
     uint32_t sources[5] = {9, 9, 9, 9, 9}, triangles[6];
-    expect(stipeharbor_tessellate(verbs, 3, coords, 4, 2.0f, 4.0f, STIPEHARBOR_MITER, STIPEHARBOR_BUTT, STIPEHARBOR_MERGE_RANGE_LEAST, vertices, 20, sources, 3, triangles, 6, NULL, 0)
+    expect(stipeharbor_tessellate(verbs, 3, coords, 4, 2.0f, 4.0f, STIPEHARBOR_MITER, STIPEHARBOR_BUTT, STIPEHARBOR_MERGE_RANGE_LEAST, 0, vertices, 20, sources, 3, triangles, 6, NULL, 0)
                == STIPEHARBOR_VERTEX_ROOM && sources[0] == 9,
            "a source list that is too short is 6, and left alone");
-    expect(stipeharbor_tessellate(verbs, 3, coords, 4, 2.0f, 4.0f, STIPEHARBOR_MITER, STIPEHARBOR_BUTT, STIPEHARBOR_MERGE_RANGE_LEAST, vertices, 20, sources, 5, triangles, 6, NULL, 0)
+    expect(stipeharbor_tessellate(verbs, 3, coords, 4, 2.0f, 4.0f, STIPEHARBOR_MITER, STIPEHARBOR_BUTT, STIPEHARBOR_MERGE_RANGE_LEAST, 0, vertices, 20, sources, 5, triangles, 6, NULL, 0)
                == STIPEHARBOR_ACCEPTED,
            "with a record more than is needed there is a mesh");
     for (uint32_t i = 0; i < 4; i++)
@@ -49,8 +49,8 @@ static void sources_told(void)
     expect(sources[4] == 9, "a record that is not asked for is left alone");
 }
 
-/* Width, limit, join, cap and merge range. */
-#define STROKE 2.0f, 4.0f, STIPEHARBOR_MITER, STIPEHARBOR_BUTT, STIPEHARBOR_MERGE_RANGE_LEAST
+/* Width, limit, join, cap, merge range and detail. */
+#define STROKE 2.0f, 4.0f, STIPEHARBOR_MITER, STIPEHARBOR_BUTT, STIPEHARBOR_MERGE_RANGE_LEAST, 0
 
 /* Three runs of which the second draws nothing: measured, written with just that room and a place less, and taken apart again. W-210's traps. */
 static void measured(void)
@@ -79,7 +79,7 @@ static void measured(void)
 static void nulls(void)
 {
     expect(stipeharbor_read(NULL, 0, NULL, 0, NULL, 0, NULL, 0) == STIPEHARBOR_ACCEPTED, "the empty text is a path");
-    expect(stipeharbor_tessellate(NULL, 0, NULL, 0, 2.0f, 4.0f, STIPEHARBOR_BEVEL, STIPEHARBOR_SQUARE, STIPEHARBOR_MERGE_RANGE_MOST, NULL, 0, NULL, 0, NULL, 0, NULL, 0)
+    expect(stipeharbor_tessellate(NULL, 0, NULL, 0, 2.0f, 4.0f, STIPEHARBOR_BEVEL, STIPEHARBOR_SQUARE, STIPEHARBOR_MERGE_RANGE_MOST, STIPEHARBOR_DETAIL_MOST, NULL, 0, NULL, 0, NULL, 0, NULL, 0)
                == STIPEHARBOR_ACCEPTED,
            "no verbs are a path");
     expect(stipeharbor_root(-1.0f, NULL, 0) == STIPEHARBOR_NO_ROOT, "a negative has no root");
@@ -107,7 +107,7 @@ static void drawing(void)
     float vertices[30];
     uint32_t sources[6], triangles[12];
     size_t answer[3];
-    uint32_t number = stipeharbor_tessellate(verbs, 4, coords, 6, 2.0f, 4.0f, STIPEHARBOR_MITER, STIPEHARBOR_BUTT, STIPEHARBOR_MERGE_RANGE_LEAST, vertices, 30, sources, 6,
+    uint32_t number = stipeharbor_tessellate(verbs, 4, coords, 6, 2.0f, 4.0f, STIPEHARBOR_MITER, STIPEHARBOR_BUTT, STIPEHARBOR_MERGE_RANGE_LEAST, 0, vertices, 30, sources, 6,
                                              triangles, 12, answer, 3);
     expect(number == STIPEHARBOR_ACCEPTED && answer[1] == 6 && answer[2] == 4, "the header's join has six vertices and four triangles");
     for (size_t i = 0; i < 30; i++)
@@ -118,6 +118,29 @@ static void drawing(void)
         expect(sources[i] == i, "the header's join has the sources that it names");
     for (size_t i = 0; i < 6; i++)
         expect(vertices[5 * i] == coords[2 * (i / 2)] + vertices[5 * i + 2] && vertices[5 * i + 1] == coords[2 * (i / 2) + 1] + vertices[5 * i + 3], "a place is the point and the normal times half the width");
+}
+
+/* W-209's: the caps of a line, arcs numbered last, the outward vertices positive; a detail out of range, whatever is round. */
+static void arcs(void)
+{
+    static const uint8_t verbs[] = {STIPEHARBOR_BEGIN, STIPEHARBOR_LINE, STIPEHARBOR_END_OPEN};
+    static const float coords[] = {0.0f, 0.0f, 8.0f, 0.0f};
+    static const uint32_t told[] = {0, 1, 2, 3, 0, 1, 0, 2, 2, 2}, corners[] = {1, 0, 2, 1, 2, 3, 1, 4, 0, 1, 5, 4, 4, 6, 0, 2, 7, 3, 2, 8, 7, 7, 9, 3};
+    float vertices[50];
+    uint32_t sources[10], triangles[24];
+    size_t answer[3];
+    uint32_t number = stipeharbor_tessellate(verbs, 3, coords, 4, 2.0f, 4.0f, STIPEHARBOR_MITER, STIPEHARBOR_ROUND_CAP, STIPEHARBOR_MERGE_RANGE_LEAST, 1, vertices, 50, sources, 10,
+                                             triangles, 24, answer, 3);
+    expect(number == STIPEHARBOR_ACCEPTED && answer[1] == 10 && answer[2] == 8 && vertices[20] == -1.0f && vertices[35] == 9.0f, "a line with round caps has ten vertices and eight triangles");
+    for (size_t i = 0; i < 10; i++)
+        expect(sources[i] == told[i], "an arc's vertices have the side of its first");
+    for (size_t i = 0; i < 24; i++)
+        expect(triangles[i] == corners[i], "the start cap's arcs follow the first edge, the end cap's the last");
+    expect(stipeharbor_measure(verbs, 3, coords, 4, 2.0f, 4.0f, STIPEHARBOR_ROUND_JOIN, STIPEHARBOR_BUTT, STIPEHARBOR_MERGE_RANGE_LEAST, STIPEHARBOR_DETAIL_MOST, answer, 3) == STIPEHARBOR_ACCEPTED
+               && answer[1] == 4,
+           "a line has no corner to round");
+    expect(stipeharbor_measure(verbs, 3, coords, 4, 2.0f, 4.0f, STIPEHARBOR_MITER, STIPEHARBOR_BUTT, STIPEHARBOR_MERGE_RANGE_LEAST, STIPEHARBOR_DETAIL_MOST + 1, answer, 3) == STIPEHARBOR_OUT_OF_RANGE,
+           "a detail out of range is refused where nothing is round");
 }
 
 /* A file of one triangle, its count and its second corner's x looked at, and read back; refusals 14 to 17, each changing nothing. */
@@ -203,6 +226,7 @@ int main(void)
     nulls();
     values();
     drawing();
+    arcs();
     stl();
     widths();
     lists();

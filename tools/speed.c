@@ -1,5 +1,5 @@
 /* tools/speed.c: strokes one open run of POINTS points REPEAT times, or measures it, for whoever counts instructions or time around it (docs/SPEED.md).
- * usage: speed gentle|sharp|right plenty|exact|measure POINTS REPEAT; the empty loop is REPEAT 0. Edges are 5 long; Miter 4, Butt, width 2, merge range 1/128.
+ * usage: speed gentle|sharp|right plenty|exact|measure POINTS REPEAT [DETAIL]; the empty loop is REPEAT 0. Edges are 5 long; width 2, merge range 1/128; Miter 4 and Butt, or with a detail Round and Round.
  */
 #include "stipeharbor.h"
 #include <stdio.h>
@@ -11,9 +11,9 @@ enum { POINTS = 65535 };
 
 static uint8_t verbs[POINTS + 1];
 static float coords[2 * POINTS];
-static float vertices[5 * 4 * POINTS];
-static uint32_t sources[4 * POINTS];
-static uint32_t triangles[3 * 4 * POINTS];
+static float *vertices;
+static uint32_t *sources, *triangles;
+static uint32_t join = STIPEHARBOR_MITER, cap = STIPEHARBOR_BUTT, detail;
 
 /* Turns to 17 degrees, to 169, or of 90, to either side as a congruential sequence says. */
 static void fill(const char *kind, size_t n) {
@@ -32,18 +32,21 @@ static void fill(const char *kind, size_t n) {
 }
 
 static uint32_t stroke(size_t n, size_t vertex_floats, size_t vertex_sources, size_t triangle_numbers, size_t *answer) {
-    return stipeharbor_tessellate(verbs, n + 1, coords, 2 * n, 2, 4, STIPEHARBOR_MITER, STIPEHARBOR_BUTT, STIPEHARBOR_MERGE_RANGE_LEAST, vertices, vertex_floats, sources, vertex_sources, triangles, triangle_numbers, answer, 3);
+    return stipeharbor_tessellate(verbs, n + 1, coords, 2 * n, 2, 4, join, cap, STIPEHARBOR_MERGE_RANGE_LEAST, detail, vertices, vertex_floats, sources, vertex_sources, triangles, triangle_numbers, answer, 3);
 }
 
 static uint32_t measure(size_t n, size_t *answer) {
-    return stipeharbor_measure(verbs, n + 1, coords, 2 * n, 2, 4, STIPEHARBOR_MITER, STIPEHARBOR_BUTT, STIPEHARBOR_MERGE_RANGE_LEAST, answer, 3);
+    return stipeharbor_measure(verbs, n + 1, coords, 2 * n, 2, 4, join, cap, STIPEHARBOR_MERGE_RANGE_LEAST, detail, answer, 3);
 }
 
 int main(int argc, char **argv) {
-    size_t n = argc == 5 ? strtoul(argv[3], 0, 10) : 0, repeat = argc == 5 ? strtoul(argv[4], 0, 10) : 0;
-    if (n < 1 || n > POINTS) return fprintf(stderr, "usage: speed gentle|sharp|right plenty|exact|measure POINTS REPEAT\n"), 2;
+    size_t n = argc >= 5 ? strtoul(argv[3], 0, 10) : 0, repeat = argc >= 5 ? strtoul(argv[4], 0, 10) : 0;
+    if (argc == 6) join = STIPEHARBOR_ROUND_JOIN, cap = STIPEHARBOR_ROUND_CAP, detail = (uint32_t)strtoul(argv[5], 0, 10);
+    if (argc > 6 || n < 1 || n > POINTS || detail > STIPEHARBOR_DETAIL_MOST) return fprintf(stderr, "usage: speed gentle|sharp|right plenty|exact|measure POINTS REPEAT [DETAIL]\n"), 2;
     fill(argv[1], n);
-    size_t answer[3], nv = sizeof vertices / sizeof *vertices, ns = sizeof sources / sizeof *sources, nt = sizeof triangles / sizeof *triangles;
+    size_t answer[3], ns = (4 * n) << detail, nv = 5 * ns, nt = 3 * ns;
+    vertices = calloc(nv, sizeof *vertices), sources = calloc(ns, sizeof *sources), triangles = calloc(nt, sizeof *triangles);
+    if (!vertices || !sources || !triangles) return fprintf(stderr, "speed: there is no memory for the lists\n"), 2;
     uint32_t number = stroke(n, nv, ns, nt, answer);
     if (*argv[2] == 'e') nv = 5 * answer[1], ns = answer[1], nt = 3 * answer[2];
     for (size_t i = 0; i < repeat; i++) number |= *argv[2] == 'm' ? measure(n, answer) : stroke(n, nv, ns, nt, answer);

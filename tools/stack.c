@@ -1,4 +1,4 @@
-/* How many bytes of the stack each call takes at most, beyond an empty call: random paths of 1 to 400 points with all joins and caps, and lists to fit. The stack is painted before a call and looked at behind it.
+/* How many bytes of the stack each call takes at most, beyond an empty call: random paths of 1 to 400 points with all joins, caps and details, and lists to fit. The stack is painted before a call and looked at behind it.
    It is linked statically, or the linker's own work at a first call would be counted. tools/machines runs it; docs/SPEED.md has what it prints. */
 #define _XOPEN_SOURCE 600
 #include <pthread.h>
@@ -10,15 +10,16 @@
 #define STACK (256 * 1024)
 #define PAINT 0xA5
 #define POINTS 400
+#define MOST (4 * POINTS << STIPEHARBOR_DETAIL_MOST)
 #define PATHS 300
 
 static unsigned char stack[STACK] __attribute__((aligned(4096)));
-static uint8_t verbs[POINTS + 1], text[16 * POINTS], bytes[84 + 50 * 4 * POINTS];
-static float coords[2 * POINTS], vertices[5 * 4 * POINTS], corners[6 * 4 * POINTS], values[2];
-static uint32_t sources[4 * POINTS], triangles[3 * 4 * POINTS];
-static uint16_t narrowed[3 * 4 * POINTS];
+static uint8_t verbs[POINTS + 1], text[16 * POINTS], bytes[84 + 50 * MOST];
+static float coords[2 * POINTS], vertices[5 * MOST], corners[6 * MOST], values[2];
+static uint32_t sources[MOST], triangles[3 * MOST];
+static uint16_t narrowed[3 * MOST];
 static size_t answer[3], points, text_length, meshed[3];
-static uint32_t seed = 28, join, cap;
+static uint32_t seed = 28, join, cap, detail;
 
 /* A linear generator: what matters is that the paths differ. */
 static uint32_t next(uint32_t below)
@@ -38,29 +39,30 @@ static void draw_path(void)
         text_length += (size_t)sprintf((char *)text + text_length, "%c%d %d", i ? 'L' : 'M', (int)coords[2 * i], (int)coords[2 * i + 1]);
     }
     verbs[points] = next(2) ? STIPEHARBOR_END_OPEN : STIPEHARBOR_END_CLOSED;
-    join = next(3);
-    cap = next(2);
+    join = next(4);
+    cap = next(3);
+    detail = next(1 + STIPEHARBOR_DETAIL_MOST);
 }
 
 static void empty(void) { answer[0] = 0; }
 static void tessellate(void)
 {
-    stipeharbor_tessellate(verbs, points + 1, coords, 2 * points, 20.0f, 4.0f, join, cap, STIPEHARBOR_MERGE_RANGE_LEAST, vertices, 5 * 4 * POINTS, sources, 4 * POINTS,
-                           triangles, 3 * 4 * POINTS, answer, 3);
+    stipeharbor_tessellate(verbs, points + 1, coords, 2 * points, 20.0f, 4.0f, join, cap, STIPEHARBOR_MERGE_RANGE_LEAST, detail, vertices, 5 * MOST, sources, MOST,
+                           triangles, 3 * MOST, answer, 3);
     memcpy(meshed, answer, sizeof meshed);
 }
 static void tessellate_counted(void)
 {
-    stipeharbor_tessellate(verbs, points + 1, coords, 2 * points, 20.0f, 4.0f, join, cap, STIPEHARBOR_MERGE_RANGE_LEAST, vertices, 5 * meshed[1], sources, meshed[1],
+    stipeharbor_tessellate(verbs, points + 1, coords, 2 * points, 20.0f, 4.0f, join, cap, STIPEHARBOR_MERGE_RANGE_LEAST, detail, vertices, 5 * meshed[1], sources, meshed[1],
                            triangles, 3 * meshed[2], answer, 3);
 }
 static void read(void) { stipeharbor_read(text, text_length, verbs, POINTS + 1, coords, 2 * POINTS, answer, 3); }
 static void root(void) { stipeharbor_root(2.0f, values, 2); }
 static void normal(void) { stipeharbor_compute_normal(1.0f, 0.0f, 0.6f, 0.8f, values, 2); }
 static void stl_write(void) { stipeharbor_stl_write(vertices, 5 * meshed[1], triangles, 3 * meshed[2], bytes, sizeof bytes, answer, 3); }
-static void stl_read(void) { stipeharbor_stl_read(bytes, 84 + 50 * meshed[2], corners, 6 * 4 * POINTS, answer, 3); }
-static void narrow(void) { stipeharbor_narrow(triangles, 3 * meshed[2], narrowed, 3 * 4 * POINTS, answer, 3); }
-static void widen(void) { stipeharbor_widen(narrowed, 3 * meshed[2], triangles, 3 * 4 * POINTS, answer, 3); }
+static void stl_read(void) { stipeharbor_stl_read(bytes, 84 + 50 * meshed[2], corners, 6 * MOST, answer, 3); }
+static void narrow(void) { stipeharbor_narrow(triangles, 3 * meshed[2], narrowed, 3 * MOST, answer, 3); }
+static void widen(void) { stipeharbor_widen(narrowed, 3 * meshed[2], triangles, 3 * MOST, answer, 3); }
 /* So many vertices that all marks are cleared: what is not touched is not seen here. */
 static void check(void) { stipeharbor_check(20000, triangles, 3 * meshed[2], answer, 3); }
 static void check_attached(void) { stipeharbor_check_attached(20000, triangles, 3 * meshed[2], answer, 3); }

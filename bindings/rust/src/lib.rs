@@ -5,7 +5,7 @@
 //!
 //! ```
 //! # #[cfg(feature = "std")] {
-//! use stipeharbor::{stripe_of, Options};
+//! use stipeharbor::{stripe_of, Cap, Join, Options};
 //!
 //! let stripe = stripe_of(b"M2 2.5H22.5V9", Options { width: 3.0, ..Options::default() })?;
 //! assert_eq!((stripe.vertices().len(), stripe.triangles().len()), (6, 4));
@@ -30,6 +30,10 @@
 //!     ".....................###..",
 //!     "..........................",
 //! ]);
+//!
+//! let rounded = Options { join: Join::Round, cap: Cap::Round, detail: 1, ..Options::default() };
+//! let stripe = stripe_of(b"M0 0L8 0L8 8", rounded)?;
+//! assert_eq!((stripe.vertices().len(), stripe.triangles().len()), (14, 12));
 //!
 //! let refused = stripe_of(b"M0 0C1 1", Options::default()).unwrap_err();
 //! assert_eq!(refused.to_string(), "refused 9 4: from byte 4 on, counted from 0, it is no path text");
@@ -97,6 +101,8 @@ pub const RADIO_WORDS: usize = 21;
 pub const MERGE_RANGE_LEAST: f32 = 0.007_812_5;
 /// The greatest merge range.
 pub const MERGE_RANGE_MOST: f32 = 1.0;
+/// The finest arcs.
+pub const DETAIL_MOST: u32 = 6;
 
 /// The shape of a corner. A path that runs back along itself is beyond every limit.
 #[derive(Clone, Copy, Debug, PartialEq, Eq)]
@@ -107,6 +113,8 @@ pub enum Join {
     MiterClip = 1,
     /// The corner cut straight across.
     Bevel = 2,
+    /// An arc about the point.
+    Round = 3,
 }
 
 /// The shape of both ends of an open run.
@@ -116,6 +124,8 @@ pub enum Cap {
     Butt = 0,
     /// Half a width beyond it.
     Square = 1,
+    /// Half a circle about it.
+    Round = 2,
 }
 
 /// How a path is stroked.
@@ -133,10 +143,14 @@ pub struct Options {
     /// out, and so are the last ones of a closed run that are so near its first:
     /// [`MERGE_RANGE_LEAST`] to [`MERGE_RANGE_MOST`].
     pub merge_range: f32,
+    /// How fine an arc is, 0 to [`DETAIL_MOST`]: of a detail k a round corner has 2^k - 1 vertices
+    /// of its own, a round end 2^(k+1) - 1, a point alone 2^(k+2). Where neither join nor cap is
+    /// round it changes nothing.
+    pub detail: u32,
 }
 
 /// Those of the program `./stripe`: width 2, miter limit 4, [`Join::Miter`], [`Cap::Butt`] and the
-/// least merge range.
+/// least merge range; and detail 3, for whoever asks for [`Join::Round`] or [`Cap::Round`].
 impl Default for Options {
     fn default() -> Options {
         Options {
@@ -145,6 +159,7 @@ impl Default for Options {
             join: Join::Miter,
             cap: Cap::Butt,
             merge_range: MERGE_RANGE_LEAST,
+            detail: 3,
         }
     }
 }
@@ -230,6 +245,7 @@ pub fn tessellate(
         options.join as u32,
         options.cap as u32,
         options.merge_range,
+        options.detail,
         vertices,
         raw::records(sources),
         triangles,
@@ -254,6 +270,7 @@ pub fn measure(verbs: &[u8], coordinates: &[f32], options: Options) -> Result<Me
         options.join as u32,
         options.cap as u32,
         options.merge_range,
+        options.detail,
         &mut answer,
     );
     let [place, n, m] = answer;
@@ -283,6 +300,7 @@ pub fn run_vertices<'a>(
         options.join as u32,
         options.cap as u32,
         options.merge_range,
+        options.detail,
         run,
         vertices,
         &mut answer,

@@ -5,7 +5,7 @@ use stipeharbor::{Cap, Join, Options, Refusal, Source, Verb, VERB_LIMIT};
 
 const TEXT: &[u8] = b"M0 0L100 0L100 100L0 3Zm5.5 5h9";
 
-fn options() -> [Options; 3] {
+fn options() -> [Options; 4] {
     let wide = Options {
         width: 30.0,
         ..Options::default()
@@ -15,7 +15,13 @@ fn options() -> [Options; 3] {
         cap: Cap::Square,
         ..wide
     };
-    [Options::default(), wide, square]
+    let round = Options {
+        join: Join::Round,
+        cap: Cap::Round,
+        detail: 2,
+        ..wide
+    };
+    [Options::default(), wide, square, round]
 }
 
 #[test]

@@ -6,7 +6,7 @@ use stipeharbor::{narrow, stl_corners, stl_file, stl_read, stl_write, widen};
 use stipeharbor::{raw, Radio, RADIO_WORDS};
 use stipeharbor::{Cap, Join, Mesh, Options, Path, Refusal, BEGIN, END_CLOSED, END_OPEN, LINE};
 use stipeharbor::{Side, Source};
-use stipeharbor::{MERGE_RANGE_LEAST, MERGE_RANGE_MOST, TEXT_LIMIT};
+use stipeharbor::{DETAIL_MOST, MERGE_RANGE_LEAST, MERGE_RANGE_MOST, TEXT_LIMIT};
 
 const OPTIONS: Options = Options {
     width: 2.0,
@@ -14,6 +14,7 @@ const OPTIONS: Options = Options {
     join: Join::Miter,
     cap: Cap::Butt,
     merge_range: MERGE_RANGE_LEAST,
+    detail: 0,
 };
 const VERBS: [u8; 3] = [BEGIN, LINE, END_OPEN];
 const COORDINATES: [f32; 4] = [0.0, 1.0, 2.0, 1.0];
@@ -133,6 +134,8 @@ fn of_options() {
     assert_eq!(joined(Join::Miter), Ok((6, 4)));
     assert_eq!(joined(Join::MiterClip), Ok((6, 4)));
     assert_eq!(joined(Join::Bevel), Ok((7, 5)));
+    // Without detail a round join is a bevel.
+    assert_eq!(joined(Join::Round), Ok((7, 5)));
     // The closing end merges by the range, too.
     let traced = [0.0, 0.0, 10.0, 0.0, 10.0, 10.0, 0.9, 0.0, 0.0, 0.9];
     let merged = |merge_range| {
@@ -148,6 +151,40 @@ fn of_options() {
     assert_eq!(merged(MERGE_RANGE_LEAST), Ok((10, 10)));
     assert_eq!(merged(MERGE_RANGE_MOST), Ok((6, 6)));
     assert_eq!(merged(MERGE_RANGE_LEAST / 2.0), Err(Refusal::OutOfRange));
+}
+
+/// The caps of a line, the first edge being the last: edge, start cap, end cap. Arcs are numbered
+/// last, and the outward vertex is positive.
+#[test]
+fn of_arcs() {
+    let verbs = [BEGIN, LINE, END_OPEN];
+    let line = [0.0, 0.0, 8.0, 0.0];
+    let rounded = Options {
+        cap: Cap::Round,
+        detail: 1,
+        ..OPTIONS
+    };
+    let (mut v, mut s, mut t) = ([0.0; 50], [Source::default(); 10], [0; 24]);
+    let mesh = tessellate(&verbs, &line, rounded, &mut v, &mut s, &mut t).expect("a mesh");
+    assert_eq!((mesh.vertices, mesh.triangles), (10, 8));
+    let arcs = [
+        1, 0, 2, 1, 2, 3, 1, 4, 0, 1, 5, 4, 4, 6, 0, 2, 7, 3, 2, 8, 7, 7, 9, 3,
+    ];
+    assert_eq!(t, arcs);
+    assert_eq!(s.map(Source::record), [0, 1, 2, 3, 0, 1, 0, 2, 2, 2]);
+    assert_eq!(v[20..25], [-1.0, 0.0, -1.0, -0.0, 0.0]);
+    let detailed = |detail| {
+        let options = Options { detail, ..rounded };
+        measure(&[BEGIN, END_CLOSED], &[0.0; 2], options).map(|m| m.vertices)
+    };
+    assert_eq!(detailed(DETAIL_MOST), Ok(256));
+    assert_eq!(detailed(DETAIL_MOST + 1), Err(Refusal::OutOfRange));
+    // Whether or not anything is round.
+    let coarse = Options {
+        detail: 7,
+        ..OPTIONS
+    };
+    assert_eq!(measure(&verbs, &line, coarse), Err(Refusal::OutOfRange));
 }
 
 #[test]
