@@ -60,7 +60,7 @@ fn answer_mesh<R: Routines>(case: &MeshCase) -> String {
     };
     let answer = mesh::mesh::<R>(
         path,
-        case.options,
+        &case.options,
         &mut vertices,
         &mut sources,
         &mut triangles,
@@ -77,7 +77,7 @@ fn answer_measure<R: Routines>(case: &MeasureCase) -> String {
         verbs: &case.verbs,
         coordinates: &case.coordinates,
     };
-    outcome("measure", part::measure::<R>(path, case.options)).done()
+    outcome("measure", part::measure::<R>(path, &case.options)).done()
 }
 
 /// The list is first written by the mesh call, with room for all sources and triangles: a
@@ -92,12 +92,12 @@ fn answer_part<R: Routines>(case: &PartCase) -> String {
     };
     mesh::mesh::<R>(
         path,
-        case.options,
+        &case.options,
         &mut vertices,
         &mut sources,
         &mut triangles,
     );
-    let (number, place, part) = match part::part::<R>(path, case.options, case.run, vertices.len())
+    let (number, place, part) = match part::part::<R>(path, &case.options, case.run, vertices.len())
     {
         Ok(part) => (0, 0, part),
         Err(refusal) => (refusal.number, refusal.place, 0..0),

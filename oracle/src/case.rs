@@ -233,6 +233,8 @@ fn options(words: &mut Words) -> Option<Options> {
         cap: words.number(255)? as u8,
         merge: words.float()?,
         detail: words.number(255)? as u8,
+        offset: words.float()?,
+        dashes: words.list(Words::float)?,
     })
 }
 
@@ -244,6 +246,8 @@ fn options_line(kind: &str, options: &Options) -> Line {
         .number(usize::from(options.cap))
         .float(options.merge)
         .number(usize::from(options.detail))
+        .float(options.offset)
+        .floats(&options.dashes)
 }
 
 fn mesh(words: &mut Words) -> Option<MeshCase> {

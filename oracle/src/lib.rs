@@ -3,12 +3,13 @@
 //!
 //! From the leaves up: `plane`, `root`, `normal`, `endpoint`, `window`, `edge`, `join`,
 //! `vertices` (the reading of the routines), `arc`, `routines` (what the driver asks of them),
-//! `path`, `strip`, `mesh`, `part` (the driver), `decimal`, `reader`, `program`, `stl`, `widths`, `inspect`. `shim` and `text` hold the cut text.
+//! `path`, `strip`, `dash`, `mesh`, `part` (the driver), `decimal`, `reader`, `program`, `stl`, `widths`, `inspect`. `shim` and `text` hold the cut text.
 //! `line`, `case`, `answer` are the cases and answers, `gen` makes cases.
 
 pub mod answer;
 pub mod arc;
 pub mod case;
+pub mod dash;
 pub mod decimal;
 pub mod edge;
 pub mod endpoint;

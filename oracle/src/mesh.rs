@@ -1,15 +1,16 @@
-//! The mesh call: path and options in, three lent lists filled, refusals 1 to 4, 6 and 7 in their order.
-//! W-207 retired 5.
+//! The mesh call: path and options in, three lent lists filled, refusals 1 to 4, W-213's 26, 6 and 7
+//! in their order. W-207 retired 5.
 
+use crate::dash;
 use crate::endpoint::{Cap, LineJoin};
 use crate::outcome::{Outcome, Refusal};
-use crate::path::Path;
+use crate::path::{Path, Run};
 use crate::routines::Routines;
 use crate::strip::write_run;
 use crate::vertices::Mesh;
 
 /// Options as they come in.
-#[derive(Clone, Copy, Debug, PartialEq)]
+#[derive(Clone, Debug, PartialEq)]
 pub struct Options {
     pub width: f32,
     pub limit: f32,
@@ -18,6 +19,9 @@ pub struct Options {
     pub merge: f32,
     /// W-209: the arc detail k.
     pub detail: u8,
+    /// W-213: the offset, and the lengths of dashes and gaps.
+    pub offset: f32,
+    pub dashes: Vec<f32>,
 }
 
 pub const WIDTHS: (f32, f32) = (1.0 / 256.0, 16_384.0);
@@ -45,8 +49,10 @@ impl Options {
     /// Refusal 1: an option outside its range, NaN included.
     pub fn check(&self) -> Result<Stroke, Refusal> {
         let within = |x: f32, range: (f32, f32)| range.0 <= x && x <= range.1;
-        let floats =
-            within(self.width, WIDTHS) && within(self.limit, LIMITS) && within(self.merge, MERGES);
+        let floats = within(self.width, WIDTHS)
+            && within(self.limit, LIMITS)
+            && within(self.merge, MERGES)
+            && dash::accepts(self);
         let half_width = self.width * 0.5;
         match (LineJoin::of(self.join), Cap::of(self.cap)) {
             (Some(join), Some(cap)) if floats && self.detail <= MOST_DETAIL => Ok(Stroke {
@@ -66,13 +72,21 @@ impl Options {
     }
 }
 
-/// The whole mesh, or the first of refusals 1 to 4.
-pub fn drawn<R: Routines>(path: Path, options: Options) -> Result<Mesh, Refusal> {
+/// The options once checked and what is drawn of each run of the path, or the first of refusals 1
+/// to 4 and W-213's 26, "directly after 4".
+pub fn pieces(path: Path, options: &Options) -> Result<(Stroke, Vec<Vec<Run>>), Refusal> {
     let stroke = options.check()?;
     path.check()?;
+    let pieces = dash::pieces(path.runs(stroke.near), &stroke, options)?;
+    Ok((stroke, pieces))
+}
+
+/// The whole mesh, or the first of those refusals.
+pub fn drawn<R: Routines>(path: Path, options: &Options) -> Result<Mesh, Refusal> {
+    let (stroke, pieces) = pieces(path, options)?;
     let mut mesh = Mesh::default();
-    for run in path.runs(stroke.near) {
-        write_run::<R>(&run, &stroke, &mut mesh);
+    for run in pieces.iter().flatten() {
+        write_run::<R>(run, &stroke, &mut mesh);
     }
     Ok(mesh)
 }
@@ -81,7 +95,7 @@ pub fn drawn<R: Routines>(path: Path, options: Options) -> Result<Mesh, Refusal>
 /// keep their contents.
 pub fn mesh<R: Routines>(
     path: Path,
-    options: Options,
+    options: &Options,
     vertices: &mut [f32],
     sources: &mut [u32],
     triangles: &mut [u32],

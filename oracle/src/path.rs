@@ -89,7 +89,7 @@ fn first_misplaced(verbs: &[u8]) -> Option<usize> {
 
 impl Run {
     /// Rule 1: a later point is dropped if it is near the last kept.
-    fn keep(&mut self, near: f32, number: u32, place: Point) {
+    pub fn keep(&mut self, near: f32, number: u32, place: Point) {
         match self.kept.last() {
             Some(&(_, last)) if are_near(near, place, last) => {}
             _ => self.kept.push((number, place)),

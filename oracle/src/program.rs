@@ -6,7 +6,7 @@ use crate::reader::read;
 use crate::routines::Routines;
 use std::fmt::Write;
 
-/// "width 2, limit 4, Miter, Butt", and points merged as before W-201
+/// "width 2, limit 4, Miter, Butt", points merged as before W-201, no dashes
 const OPTIONS: Options = Options {
     width: 2.0,
     limit: 4.0,
@@ -14,6 +14,8 @@ const OPTIONS: Options = Options {
     cap: 0,
     merge: 1.0 / 128.0,
     detail: 0,
+    offset: 0.0,
+    dashes: Vec::new(),
 };
 
 /// W-205: "the program keeps its buffers and gives 8 above 16,384 bytes"
@@ -48,7 +50,7 @@ fn printed_of<R: Routines>(text: &[u8], vertices: usize, triangles: usize) -> St
     let mut sources = vec![0; vertices];
     let mut vertices = vec![0.0; 5 * vertices];
     let mut triangles = vec![0; 3 * triangles];
-    let drawn = mesh::<R>(path, OPTIONS, &mut vertices, &mut sources, &mut triangles);
+    let drawn = mesh::<R>(path, &OPTIONS, &mut vertices, &mut sources, &mut triangles);
     if drawn.number != 0 {
         return refused(drawn.number, drawn.place);
     }

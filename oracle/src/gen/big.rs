@@ -1,12 +1,14 @@
 //! Cases of sizes that no line has: about as many verbs and bytes as are accepted, and lists with
-//! room for all of it, exact or one place short.
+//! room for all of it, exact or one place short; and about as many cuts of W-213.
 
+use super::dashes::about_the_limit;
 use super::parts;
 use super::paths::{long_path, options};
 use super::rng::Rng;
 use super::texts::{full_text, many_verbs};
 use super::widths;
 use crate::case::{Case, MeshCase, ReadCase};
+use crate::dash::LENGTHS;
 use crate::mesh::drawn;
 use crate::path::{Path, MAX_VERBS};
 use crate::reader::{measure, MAX_TEXT};
@@ -42,14 +44,23 @@ fn room(rng: &mut Rng, needed: usize) -> usize {
 }
 
 fn mesh(rng: &mut Rng) -> MeshCase {
-    let verbs = about(rng, MAX_VERBS);
-    let path = long_path(rng, verbs);
-    let options = options(rng, &path);
+    let path = if rng.one_in(4) {
+        about_the_limit(rng)
+    } else {
+        let verbs = about(rng, MAX_VERBS);
+        long_path(rng, verbs)
+    };
+    let mut options = options(rng, &path);
+    if path.verbs.len() < 9 {
+        options.dashes = vec![LENGTHS.0];
+        options.offset = 0.0;
+        options.detail = 0;
+    }
     let lent = Path {
         verbs: &path.verbs,
         coordinates: &path.coordinates,
     };
-    let mesh = drawn::<Reading>(lent, options).unwrap_or_default();
+    let mesh = drawn::<Reading>(lent, &options).unwrap_or_default();
     MeshCase {
         options,
         vertex_len: room(rng, 5 * mesh.vertices.len()),

@@ -1,20 +1,26 @@
-//! Join cases whose values an accepted path brings: the corners of its runs, closed ones included.
+//! Join cases whose values an accepted path brings: the corners of its runs, closed ones and dashes
+//! included.
 
 use super::paths::{accepted, far_corner};
 use super::rng::Rng;
 use crate::case::{JoinCase, Reached};
+use crate::mesh::pieces;
 use crate::path::{are_near, Path};
 use crate::plane::Point;
 use crate::strip::endpoints;
 
 pub fn join(rng: &mut Rng) -> JoinCase {
     loop {
-        let (drawn, stroke) = accepted(rng);
+        let (drawn, options) = accepted(rng);
         let path = Path {
             verbs: &drawn.verbs,
             coordinates: &drawn.coordinates,
         };
-        let runs = path.runs(stroke.near);
+        let (stroke, pieces) = match pieces(path, &options) {
+            Ok(drawn) => drawn,
+            Err(_) => continue,
+        };
+        let runs = pieces.concat();
         if runs.is_empty() {
             continue;
         }

@@ -1,8 +1,10 @@
 //! Mesh cases: accepted paths with rooms of every kind, and each refusal at every place.
 
+use super::dashes::{about_the_limit, quarters, too_long};
 use super::paths::{long_path, options, path};
 use super::rng::{ulps, Rng};
 use crate::case::{MeshCase, MAX_TRIANGLE_LIST, MAX_VERTEX_LIST};
+use crate::dash::{self, Pattern, LENGTHS, MOST_LENGTHS, OFFSETS};
 use crate::mesh::{drawn, LIMITS, MERGES, MOST_DETAIL, WIDTHS};
 use crate::path::{Path, BEGIN, END_OPEN, LINE, MAX_COORDINATE, MAX_VERBS};
 use crate::routines::Reading;
@@ -24,6 +26,9 @@ pub fn mesh(rng: &mut Rng) -> MeshCase {
         coordinates: drawn.coordinates,
     };
     match rng.below(100) {
+        // Either takes as long as thousands of others.
+        0 if rng.one_in(100) => limit_of_cuts(rng, &mut case),
+        1 if rng.one_in(20) => cut_too_often(rng, &mut case),
         0..=59 => {}
         60..=69 => spoil_option(rng, &mut case),
         70..=81 => spoil_verbs(rng, &mut case),
@@ -53,13 +58,64 @@ fn spoil_option(rng: &mut Rng, case: &mut MeshCase) {
             f32::from_bits(1),
         ])
     };
-    match rng.below(6) {
+    match rng.below(8) {
         0 => case.options.width = beyond(rng, WIDTHS),
         1 => case.options.limit = beyond(rng, LIMITS),
         2 => case.options.merge = beyond(rng, MERGES),
         3 => case.options.join = rng.pick(&[4, 5, 128, 255]),
         4 => case.options.cap = rng.pick(&[3, 4, 128, 255]),
-        _ => case.options.detail = rng.pick(&[7, 8, 128, 255]),
+        5 => case.options.detail = rng.pick(&[7, 8, 128, 255]),
+        6 => {
+            let below_0 = -f32::from_bits(1);
+            let beyond = ulps(OFFSETS.1, 1);
+            case.options.offset =
+                rng.pick(&[below_0, beyond, -1.0, f32::NAN, f32::INFINITY, f32::MAX]);
+        }
+        _ => spoil_dashes(rng, case),
+    }
+}
+
+/// W-213: a length outside its range, or one too many.
+fn spoil_dashes(rng: &mut Rng, case: &mut MeshCase) {
+    let dashes = &mut case.options.dashes;
+    if rng.one_in(3) {
+        let length = MOST_LENGTHS + rng.pick(&[1, 1, 1, 2, 16]);
+        dashes.resize(length, rng.pick(&[LENGTHS.0, 1.0, LENGTHS.1]));
+        return;
+    }
+    if dashes.is_empty() {
+        dashes.push(1.0);
+    }
+    let at = place(rng, dashes.len());
+    dashes[at] = rng.pick(&[
+        ulps(LENGTHS.0, -1),
+        ulps(LENGTHS.1, 1),
+        0.0,
+        -1.0,
+        f32::NAN,
+        f32::INFINITY,
+    ]);
+}
+
+/// W-213's 26, mostly.
+fn cut_too_often(rng: &mut Rng, case: &mut MeshCase) {
+    let more = too_long(rng);
+    case.verbs.extend(more.verbs);
+    case.coordinates.extend(more.coordinates);
+    case.options.dashes = quarters(rng);
+    case.options.detail = case.options.detail.min(1);
+}
+
+/// About as many cuts as are accepted, mostly with a merge range that leaves nothing of a quarter.
+fn limit_of_cuts(rng: &mut Rng, case: &mut MeshCase) {
+    let path = about_the_limit(rng);
+    case.verbs = path.verbs;
+    case.coordinates = path.coordinates;
+    case.options.dashes = vec![LENGTHS.0; 1 + rng.below(MOST_LENGTHS)];
+    case.options.offset = LENGTHS.0 * rng.below(9) as f32;
+    case.options.detail = 0;
+    if !rng.one_in(40) {
+        case.options.merge = rng.pick(&[0.5, 1.0]);
     }
 }
 
@@ -133,16 +189,35 @@ fn many_verbs(rng: &mut Rng, case: &mut MeshCase) {
 
 /// Two faults at once: the lower number is given.
 fn spoil_twice(rng: &mut Rng, case: &mut MeshCase) {
-    let faults: [fn(&mut Rng, &mut MeshCase); 4] =
-        [spoil_option, spoil_verbs, spoil_coordinate, many_verbs];
-    let kinds: &[usize] = if rng.one_in(80) {
-        &[0, 1, 2, 3]
-    } else {
-        &[0, 1, 2]
+    let faults: [fn(&mut Rng, &mut MeshCase); 5] = [
+        spoil_option,
+        spoil_verbs,
+        spoil_coordinate,
+        cut_too_often,
+        many_verbs,
+    ];
+    let kinds: &[usize] = match rng.below(80) {
+        0 => &[0, 1, 2, 3, 4],
+        1..=8 => &[0, 1, 2, 3],
+        _ => &[0, 1, 2],
     };
     for _ in 0..2 {
         faults[rng.pick(kinds)](rng, case);
     }
+}
+
+/// The path's points, and of a dashed path those of its dashes at most: a cut is an end of one dash,
+/// and a closed run has p0 twice.
+fn points(path: Path, case: &MeshCase) -> usize {
+    let points = case.coordinates.len() / 2;
+    let stroke = match (case.options.check(), path.check()) {
+        (Ok(stroke), Ok(())) => stroke,
+        _ => return points,
+    };
+    Pattern::of(&case.options).map_or(points, |pattern| {
+        let runs = path.runs(stroke.near);
+        points + dash::count(&runs, &stroke, &pattern) + runs.len()
+    })
 }
 
 /// The lent lists' lengths, about what the mesh needs.
@@ -151,7 +226,7 @@ fn lend(rng: &mut Rng, case: &mut MeshCase) {
         verbs: &case.verbs,
         coordinates: &case.coordinates,
     };
-    let mesh = drawn::<Reading>(path, case.options).unwrap_or_else(|_| {
+    let mesh = drawn::<Reading>(path, &case.options).unwrap_or_else(|_| {
         // A refused path is lent short lists, to be found untouched.
         Mesh {
             vertices: vec![[0.0; 5]; rng.below(3)],
@@ -161,7 +236,7 @@ fn lend(rng: &mut Rng, case: &mut MeshCase) {
     });
     let (floats, numbers) = (5 * mesh.vertices.len(), 3 * mesh.triangles.len());
     // So many to a point do for any path, of which one is then left out, or none.
-    let plenty = (4 << case.options.detail.min(MOST_DETAIL)) * (case.coordinates.len() / 2);
+    let plenty = (4 << case.options.detail.min(MOST_DETAIL)) * points(path, case);
     let is_plenty = rng.one_in(17);
     let (vertex_len, triangle_len) = match rng.below(16) {
         _ if is_plenty => (5 * plenty - rng.below(plenty.min(1) + 1), 3 * plenty),

@@ -3,6 +3,7 @@
 
 mod bad;
 mod big;
+mod dashes;
 mod indices;
 mod joins;
 mod meshes;

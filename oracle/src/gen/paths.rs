@@ -1,8 +1,9 @@
 //! Accepted paths of any number of runs, and accepted options that suit them.
 
+use super::dashes::dash;
 use super::rng::{ulps, Rng};
 use super::shapes::{any_coordinate, shape};
-use crate::mesh::{Options, Stroke, LIMITS, MERGES, WIDTHS};
+use crate::mesh::{Options, LIMITS, MERGES, WIDTHS};
 use crate::normal::compute_normal;
 use crate::path::{BEGIN, END_CLOSED, END_OPEN, LINE};
 use crate::plane::{point, Point};
@@ -16,7 +17,7 @@ pub struct Drawn {
 }
 
 impl Drawn {
-    fn new(rng: &mut Rng) -> Drawn {
+    pub fn new(rng: &mut Rng) -> Drawn {
         Drawn {
             merge: merge(rng),
             ..Drawn::default()
@@ -82,22 +83,25 @@ pub fn long_path(rng: &mut Rng, verbs: usize) -> Drawn {
 }
 
 /// A path with options, both accepted, for the joins.
-pub fn accepted(rng: &mut Rng) -> (Drawn, Stroke) {
+pub fn accepted(rng: &mut Rng) -> (Drawn, Options) {
     let drawn = path(rng);
     let options = options(rng, &drawn);
-    let stroke = options.check().expect("options within their ranges");
-    (drawn, stroke)
+    (drawn, options)
 }
 
 pub fn options(rng: &mut Rng, drawn: &Drawn) -> Options {
-    Options {
+    let mut options = Options {
         width: width(rng, drawn),
         limit: limit(rng, drawn),
         join: rng.below(4) as u8,
         cap: rng.below(3) as u8,
         merge: drawn.merge,
         detail: detail(rng),
-    }
+        offset: 0.0,
+        dashes: Vec::new(),
+    };
+    dash(rng, drawn, &mut options);
+    options
 }
 
 /// Mostly small: a mesh grows with its power of two.

@@ -50,10 +50,12 @@ fn finite(rng: &mut Rng) -> f32 {
 // ---- to write
 
 pub fn write(rng: &mut Rng) -> StlWriteCase {
-    let (vertices, triangles) = if rng.one_in(4) {
-        drawn_mesh(rng)
-    } else {
-        small_mesh(rng)
+    let (vertices, triangles) = match rng.one_in(4).then(|| drawn_mesh(rng)) {
+        // A float takes nine bytes of a line, a number seven at most; dashes make large meshes.
+        Some((floats, numbers)) if 9 * floats.len() + 7 * numbers.len() < 250_000 => {
+            (floats, numbers)
+        }
+        _ => small_mesh(rng),
     };
     let mut case = StlWriteCase {
         byte_len: 0,
@@ -92,7 +94,7 @@ pub fn drawn_mesh(rng: &mut Rng) -> (Vec<f32>, Vec<u32>) {
         verbs: &path.verbs,
         coordinates: &path.coordinates,
     };
-    let mesh = drawn::<Reading>(path, options).unwrap_or_default();
+    let mesh = drawn::<Reading>(path, &options).unwrap_or_default();
     (mesh.vertices.concat(), mesh.triangles.concat())
 }
 

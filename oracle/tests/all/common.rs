@@ -28,6 +28,8 @@ pub fn options(width: f32, limit: f32, join: u8, cap: u8) -> Options {
         cap,
         merge: 1.0 / 128.0,
         detail: 0,
+        offset: 0.0,
+        dashes: Vec::new(),
     }
 }
 
@@ -60,7 +62,7 @@ impl Stroked {
 }
 
 fn stroked<R: Routines>(
-    options: Options,
+    options: &Options,
     verbs: &[u8],
     coordinates: &[f32],
     (vertex_len, source_len, triangle_len): (usize, usize, usize),
@@ -89,8 +91,8 @@ pub fn stroke_verbs(
     coordinates: &[f32],
     lent: (usize, usize, usize),
 ) -> Stroked {
-    let judged = stroked::<Judge>(options, verbs, coordinates, lent);
-    let read = stroked::<Reading>(options, verbs, coordinates, lent);
+    let judged = stroked::<Judge>(&options, verbs, coordinates, lent);
+    let read = stroked::<Reading>(&options, verbs, coordinates, lent);
     assert_eq!(judged, read);
     judged
 }

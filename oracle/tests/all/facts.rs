@@ -1,12 +1,13 @@
 //! Facts of every generated mesh: counts from kept points and pairs, triangles of a ladder,
-//! exact room, lists untouched by a refusal; offset points of kept edges that stay apart.
+//! exact room, lists untouched by a refusal; offset points of kept edges that stay apart. A dash is a
+//! run.
 
 use oracle::case::{Case, MeshCase};
 use oracle::edge::Edge;
 use oracle::endpoint::{Cap, LineJoin, Points};
 use oracle::gen::{case, Kind, Rng};
 use oracle::line::{filled_floats, filled_numbers};
-use oracle::mesh::{drawn, mesh, Stroke};
+use oracle::mesh::{drawn, mesh, pieces, Stroke};
 use oracle::outcome::Outcome;
 use oracle::path::{Path, Run};
 use oracle::strip::{bends, endpoints};
@@ -113,23 +114,30 @@ fn check_floats(mesh: &Mesh, arcs: bool) {
     }
 }
 
+/// Rule 3: "Advancement starts at 0 in each run", a dash too.
+fn check_start(vertices: &[[f32; 5]], run: &Run) {
+    let starts = vertices.iter().take(2);
+    assert!(run.closed || starts.map(|v| v[4]).all(|advancement| advancement == 0.0));
+}
+
 #[test]
 fn meshes_are_ladders() {
     let mut accepted = 0;
     for case in generated(31, 40_000) {
-        let mesh = match drawn::<Judge>(path(&case), case.options) {
+        let mesh = match drawn::<Judge>(path(&case), &case.options) {
             Ok(mesh) => mesh,
             Err(_) => continue,
         };
         accepted += 1;
-        let stroke = case.options.check().expect("accepted options");
+        let (stroke, pieces) = pieces(path(&case), &case.options).expect("accepted, too");
         let arcs = stroke.join == LineJoin::Round || stroke.cap == Cap::Round;
         check_floats(&mesh, arcs);
         let (mut vertex, mut triangle) = (0, 0);
-        for run in path(&case).runs(stroke.near) {
+        for run in pieces.concat() {
             let (vertices, triangles) = counts(&run, &stroke);
             let of_run = &mesh.triangles[triangle..triangle + triangles];
             check_ladder(of_run, vertex, vertices, arcs);
+            check_start(&mesh.vertices[vertex..vertex + vertices], &run);
             vertex += vertices;
             triangle += triangles;
         }
@@ -141,16 +149,17 @@ fn meshes_are_ladders() {
     assert!(accepted > 15_000);
 }
 
-/// W-207: 2^-20 is proved of the kept edges of every accepted path; 2^-40 was refused.
+/// W-207: 2^-20 is proved of the kept edges of every accepted path; 2^-40 was refused. W-213: its
+/// "statement covers them too".
 #[test]
 fn offset_points_stay_apart() {
     let mut edges = 0;
     for case in generated(207, 40_000) {
-        let stroke = match (case.options.check(), path(&case).check()) {
-            (Ok(stroke), Ok(())) => stroke,
-            _ => continue,
+        let (stroke, pieces) = match pieces(path(&case), &case.options) {
+            Ok(drawn) => drawn,
+            Err(_) => continue,
         };
-        for run in path(&case).runs(stroke.near) {
+        for run in pieces.concat() {
             let ends = endpoints(&run, &stroke);
             for pair in ends.windows(2).take(run.edges()) {
                 let edge = Edge::new(pair[0].position, pair[1].position, stroke.half_width);
@@ -169,7 +178,7 @@ fn call(case: &MeshCase, vertex_len: usize, source_len: usize, triangle_len: usi
     let mut triangles: Vec<u32> = filled_numbers(triangle_len);
     let outcome = mesh::<Judge>(
         path(case),
-        case.options,
+        &case.options,
         &mut vertices,
         &mut sources,
         &mut triangles,
@@ -188,7 +197,7 @@ fn call(case: &MeshCase, vertex_len: usize, source_len: usize, triangle_len: usi
 #[test]
 fn exact_room_is_enough_and_one_less_is_not() {
     for case in generated(32, 10_000) {
-        let mesh = match drawn::<Judge>(path(&case), case.options) {
+        let mesh = match drawn::<Judge>(path(&case), &case.options) {
             Ok(mesh) => mesh,
             Err(refusal) => {
                 assert_eq!(call(&case, 7, 3, 5), refusal.into());
@@ -215,16 +224,16 @@ fn exact_room_is_enough_and_one_less_is_not() {
 
 #[test]
 fn every_refusal_is_generated() {
-    let mut seen = [0; 8];
+    let mut seen = [0; 27];
     for case in generated(33, 20_000) {
         let number = call(&case, case.vertex_len, case.source_len, case.triangle_len).number;
         seen[number as usize] += 1;
     }
     // 5 is retired.
     assert_eq!(seen[5], 0);
-    for number in [0, 1, 2, 3, 4, 6, 7] {
-        // Cases of refusal 2 are long, and rare.
-        let least = if number == 2 { 3 } else { 50 };
+    for number in [0, 1, 2, 3, 4, 6, 7, 26] {
+        // Cases of refusal 2 are long, and those of 26 take long: they are rare.
+        let least = if number == 2 || number == 26 { 3 } else { 50 };
         assert!(seen[number] > least, "{}: {}", number, seen[number]);
     }
 }

@@ -3,6 +3,8 @@
 #[cfg(lyon_text)]
 mod agreement;
 mod common;
+mod cuts;
+mod dashes;
 mod decimal;
 mod facts;
 mod form;

@@ -5,7 +5,7 @@ use crate::common::answered;
 /// Three runs of which the second is a lone begin: eight vertices, none of them the second's.
 const PATH: &str = "0001020002000102 10 00000000 00000000 41000000 00000000 40800000 40800000 \
                     00000000 41000000 41000000 41000000";
-const OPTIONS: &str = "40000000 40800000 0 0 3C000000 0";
+const OPTIONS: &str = "40000000 40800000 0 0 3C000000 0 00000000 0";
 
 fn measure(path: &str) -> String {
     answered(&format!("measure {} {}", OPTIONS, path))

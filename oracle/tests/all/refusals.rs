@@ -18,6 +18,8 @@ const GOOD: Options = Options {
     cap: 0,
     merge: 1.0 / 128.0,
     detail: 0,
+    offset: 0.0,
+    dashes: Vec::new(),
 };
 
 #[test]

@@ -2,12 +2,12 @@
 
 use crate::common::read;
 use oracle::gen::{big, case, Kind, Rng};
-use oracle::mesh::{drawn, mesh, Options};
+use oracle::mesh::{drawn, mesh, pieces, Options};
 use oracle::outcome::Refusal;
 use oracle::path::Path;
 use oracle::program;
 use oracle::widths::{narrow, widen};
-use oracle::{case::Case, Judge};
+use oracle::{case::Case, case::MeshCase, Judge};
 
 const OPTIONS: Options = Options {
     width: 2.0,
@@ -16,6 +16,8 @@ const OPTIONS: Options = Options {
     cap: 0,
     merge: 1.0 / 128.0,
     detail: 0,
+    offset: 0.0,
+    dashes: Vec::new(),
 };
 
 fn refused(number: u32, place: usize) -> Result<usize, Refusal> {
@@ -65,7 +67,7 @@ fn a_zigzag_of_65536_verbs() {
         coordinates: &coordinates,
     };
     let bevel = Options { join: 2, ..OPTIONS };
-    let drawn = drawn::<Judge>(path, bevel).expect("a mesh");
+    let drawn = drawn::<Judge>(path, &bevel).expect("a mesh");
     assert!(drawn.vertices.len() > 65_536);
     let greatest = drawn.triangles.iter().flatten().max();
     assert_eq!(greatest, Some(&(drawn.vertices.len() as u32 - 1)));
@@ -73,7 +75,7 @@ fn a_zigzag_of_65536_verbs() {
     let call = |floats: usize, numbers: usize| {
         let told = mesh::<Judge>(
             path,
-            bevel,
+            &bevel,
             &mut vec![0.0; floats],
             &mut vec![0; n],
             &mut vec![0; numbers],
@@ -95,13 +97,25 @@ fn the_program_keeps_its_buffers() {
     assert_eq!(read(&vec![b' '; 1_048_577]).0, 8);
 }
 
+/// Of a path that is cut about as often as is accepted.
+fn refused_26(case: &MeshCase) -> bool {
+    let path = Path {
+        verbs: &case.verbs,
+        coordinates: &case.coordinates,
+    };
+    let refused = pieces(path, &case.options).err();
+    assert!(refused.map_or(true, |refusal| refusal.number == 26));
+    refused.is_some()
+}
+
 /// Both sides of each limit come up.
 #[test]
 fn big_cases_reach_the_limits() {
     let mut rng = Rng::new(1);
-    let (mut verbs, mut bytes) = ([false; 3], [false; 3]);
-    for _ in 0..90 {
+    let (mut verbs, mut bytes, mut cuts) = ([false; 3], [false; 3], [false; 2]);
+    for _ in 0..120 {
         match big(&mut rng) {
+            Case::Mesh(case) if case.verbs.len() < 9 => cuts[usize::from(refused_26(&case))] = true,
             Case::Mesh(case) => verbs[case.verbs.len() - 65_535] = true,
             Case::Read(case) if case.text.len() >= 1_048_575 => {
                 bytes[case.text.len() - 1_048_575] = true
@@ -109,5 +123,5 @@ fn big_cases_reach_the_limits() {
             _ => {}
         }
     }
-    assert_eq!((verbs, bytes), ([true; 3], [true; 3]));
+    assert_eq!((verbs, bytes, cuts), ([true; 3], [true; 3], [true; 2]));
 }
