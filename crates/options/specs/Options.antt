@@ -1,6 +1,7 @@
--- The options, their ranges, and what the rules use of them. Assumes nothing.
+-- The options, their ranges, and what the rules use of them; the lengths of dashes stand in a list beside them. Assumes nothing.
 use Prim.Native.Nat.{ℕ}
 use mathlib.Core.Bool.{Bool, true, false, _&&_, _||_, cond}
+use mathlib.Core.List.{List}
 use lib.Dec.{ltb, leb, eqb}
 use lib.Ieee.{Float, le}
 use Rattle.refusals.specs.Numbers.{numberOf, accepted, verdictOf}
@@ -10,6 +11,7 @@ use Rattle.plane.specs.F32.{_⊗_, f32}
 use Rattle.plane.specs.Normal.{pick}
 use Rattle.endpoint.specs.declared.LineJoin.{LineJoin}
 use Rattle.endpoint.specs.declared.LineJoin.the-variants as joins
+use Rattle.dashes.specs.Pattern.{patternIn}
 use Rattle.options.specs.declared.LineCap.{LineCap}
 use Rattle.options.specs.declared.LineCap.the-variants as caps
 use Rattle.options.specs.declared.Options.{Options}
@@ -72,11 +74,12 @@ preparedOf o =
       clip = clipOf (lineCapOf (o .cap)) h;
       near = o .«merge_range» ⊗ o .«merge_range»;
       detail = o .detail;
+      offset = o .offset;
     }
 
 -- the values of a refusal: zeros, Miter and Butt
 abbrev pub noStroke : Stroke
-noStroke = record { «half_width» = f32 0; «miter_limit» = f32 0; «line_join» = joins.Miter; cap = caps.Butt; clip = f32 0; near = f32 0; detail = 0 }
+noStroke = record { «half_width» = f32 0; «miter_limit» = f32 0; «line_join» = joins.Miter; cap = caps.Butt; clip = f32 0; near = f32 0; detail = 0; offset = f32 0 }
 
 -- "0: accepted"
 abbrev pub accepting : Stroke → StrokeAnswer
@@ -85,9 +88,9 @@ accepting s = record { number = numberOf accepted; place = 0; stroke = s }
 abbrev pub refusing : Refusal → StrokeAnswer
 refusing r = let a = verdictOf r in record { number = a .number; place = a .place; stroke = noStroke }
 
--- "1: an option outside its range, NaN included"
-unfoldable pub strokeOf : Options → StrokeAnswer
-strokeOf o = pick (inRange o) (accepting (preparedOf o)) (refusing OutOfRange)
+-- "1: an option outside its range, NaN included"; W-213: "1 for a bad list"
+unfoldable pub strokeOf : Options → List Float → StrokeAnswer
+strokeOf o ds = pick (inRange o && patternIn ds (o .offset)) (accepting (preparedOf o)) (refusing OutOfRange)
 
 -- what each case of `stroke_of`'s answer stands for
 abbrev pub strokeAnswerOf : Stroked → StrokeAnswer

@@ -1,4 +1,5 @@
 // The options of a stroke, as a caller hands them over and as the rules use them: refusal 1 of document 01.
+use dashes::pattern::is_pattern;
 use endpoint::LineJoin;
 use refusals::ACCEPTED;
 use refusals::Refusal;
@@ -23,6 +24,8 @@ pub struct Options {
     pub merge_range: f32,
     // How fine arcs are, k: 0 to 6. The arc of a corner has 2^k - 1 vertices of its own.
     pub detail: u32,
+    // How far into its dashes a lane begins: 0 to 32,768. Their lengths are lent beside the options.
+    pub offset: f32,
 }
 
 pub enum LineCap {
@@ -44,6 +47,8 @@ pub struct Stroke {
     pub near: f32,
     // The k of arcs.
     pub detail: u32,
+    // How far into its dashes a run begins.
+    pub offset: f32,
 }
 
 // What `stroke_of` says: the options as the rules use them, or refusal 1.
@@ -130,13 +135,15 @@ fn prepared(o: Options) -> Stroke
         clip: clip_of(o.cap, h),
         near: o.merge_range * o.merge_range,
         detail: o.detail,
+        offset: o.offset,
     }
 }
 
-pub fn stroke_of(o: Options) -> Stroked
-    ensures { λ r. ⌜ strokeAnswerOf r ≡ strokeOf o ⌝ }
+// lengths has those of the dashes; an empty list means no dashes.
+pub fn stroke_of(o: Options, lengths: &[f32]) -> Stroked
+    ensures { λ r. ⌜ strokeAnswerOf r ≡ strokeOf o (now (lengths .entry)) ⌝ }
 {
-    if is_in_range(o) {
+    if is_in_range(o) & is_pattern(lengths, o.offset) {
         return Stroked::Stroke(prepared(o));
     }
     Stroked::Refused(Refusal::OutOfRange)
@@ -153,6 +160,7 @@ fn no_stroke() -> Stroke
         clip: 0.0,
         near: 0.0,
         detail: 0,
+        offset: 0.0,
     }
 }
 

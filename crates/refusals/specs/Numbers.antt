@@ -1,7 +1,7 @@
 -- "What each number means" of document 01, and the numbers that document 02 adds: the one place where the numbers stand. Assumes nothing.
 use Prim.Native.Nat.{ℕ}
 use Rattle.refusals.specs.declared.Refusal.{Refusal}
-use Rattle.refusals.specs.declared.Refusal.the-variants.{OutOfRange, TooManyVerbs, Verb, Coordinate}
+use Rattle.refusals.specs.declared.Refusal.the-variants.{OutOfRange, TooManyVerbs, Verb, Coordinate, TooManyCuts}
 use Rattle.refusals.specs.declared.Verdict.{Verdict}
 
 pub data Meaning : Type 0 where
@@ -56,6 +56,8 @@ pub data Meaning : Type 0 where
   notAttached : Meaning
   -- W-212: "a call after the closing one with no new start"
   afterClose : Meaning
+  -- W-213: "over 65,536 cut points in all"
+  tooManyCuts : Meaning
 
 abbrev pub numberOf : Meaning → ℕ
 numberOf accepted = 0
@@ -83,14 +85,16 @@ numberOf twoAlike = 22
 numberOf vertexUnnamed = 23
 numberOf notAttached = 24
 numberOf afterClose = 25
+numberOf tooManyCuts = 26
 
 -- a row of the table, with its place
 abbrev pub verdict : Meaning → ℕ → Verdict
 verdict meaning place = record { number = numberOf meaning; place = place }
 
--- what each case of refusals 1 to 4 stands for
+-- what each case of refusals 1 to 4 stands for, and of 26, "place 0, directly after 4"
 abbrev pub verdictOf : Refusal → Verdict
 verdictOf OutOfRange = verdict outOfRange 0
 verdictOf TooManyVerbs = verdict tooManyVerbs 0
 verdictOf (Verb i) = verdict misplacedVerb i
 verdictOf (Coordinate i) = verdict badCoordinate i
+verdictOf TooManyCuts = verdict tooManyCuts 0

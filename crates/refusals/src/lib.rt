@@ -54,7 +54,9 @@ pub const NOT_ATTACHED: u32 = 24;
 
 pub const AFTER_CLOSE: u32 = 25;
 
-// Refusals 1 to 4: what is wrong with the options or the path of a call.
+pub const TOO_MANY_CUTS: u32 = 26;
+
+// Refusals 1 to 4, and 26 behind them: what is wrong with the options or the path of a call.
 pub enum Refusal {
     // An option outside its range.
     OutOfRange,
@@ -63,6 +65,8 @@ pub enum Refusal {
     Verb(usize),
     // The first coordinate that is not finite or too large.
     Coordinate(usize),
+    // More than 65,536 cut points in all (W-213).
+    TooManyCuts,
 }
 
 // A row of the table: its number, and a place.
@@ -90,6 +94,10 @@ pub fn verdict_of(r: Refusal) -> Verdict
         Refusal::Coordinate(place) => Verdict {
             number: BAD_COORDINATE,
             place,
+        },
+        Refusal::TooManyCuts => Verdict {
+            number: TOO_MANY_CUTS,
+            place: 0,
         },
     }
 }

@@ -15,6 +15,9 @@ enum-known-r c = search needs
 enum-known-r-2 : tie.Need-enum-known-r-2
 enum-known-r-2 c = search needs
 
+enum-told-3 : tie.Need-enum-told-3
+enum-told-3 c = search needs
+
 returns : tie.Need-returns
 returns c = rw (c .enum-told .given .1)
 
@@ -27,6 +30,9 @@ returns-3 c = rw (c .before .r .given .1)
 returns-4 : tie.Need-returns-4
 returns-4 c = rw (c .before .r2 .given .1)
 
+returns-5 : tie.Need-returns-5
+returns-5 c = rw (c .enum-told3 .given .1)
+
 pub verdict-of-spec : {M : Type 1} → statement M
 verdict-of-spec =
     tie.close
@@ -35,7 +41,9 @@ verdict-of-spec =
     enum-told-2
     enum-known-r
     enum-known-r-2
+    enum-told-3
     returns
     returns-2
     returns-3
-    returns-4)
+    returns-4
+    returns-5)
