@@ -35,10 +35,6 @@ spotOf a a0 p b = record { from = a; to = p; start = a0; end = a0 ⊕ lengthOf (
 abbrev pub turnedOf : Spot → Endpoint → Spot
 turnedOf s p = spotOf (s .to) (s .end) p (s .beat)
 
--- the mark that comes next
-unfoldable pub markOf : Spot → Mark
-markOf s = cond (fallsOn s) (Cut (cutOf s)) (Corner (s .to))
-
 -- "over 65,536 cut points in all" are refused
 abbrev pub cutLimit : ℕ
 cutLimit = 65536

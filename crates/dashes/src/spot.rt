@@ -10,7 +10,7 @@ ghost use mathlib.Core.Path.{_≡_};
 ghost use Prim.Native.Nat.{_<_};
 ghost use lib.ListN as lists;
 ghost use Rattle.dashes.specs.Pattern.{indexLimit};
-ghost use Rattle.dashes.specs.Marks.{fallsOn, cutOf, passedOf, spotOf, turnedOf, markOf};
+ghost use Rattle.dashes.specs.Marks.{fallsOn, cutOf, passedOf, spotOf, turnedOf};
 
 // An edge with the advancements at its ends, and the next cut, which may lie on it or behind it.
 pub struct Spot {
@@ -89,14 +89,4 @@ pub fn turned(s: Spot, p: Endpoint) -> Spot
     ensures { λ r. ⌜ r ≡ turnedOf s p ⌝ }
 {
     spot_of(s.to, s.end, p, s.beat)
-}
-
-pub fn next_mark(s: Spot) -> Mark
-    ensures { λ r. ⌜ r ≡ markOf s ⌝ }
-{
-    if falls(s) {
-        return Mark::Cut(cut_of(s));
-    }
-    let to = s.to;
-    Mark::Corner(to)
 }
