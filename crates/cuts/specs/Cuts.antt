@@ -36,8 +36,8 @@ module _ (limit : Float) (ds : List Float) where
   pathCuts offset verbs coords = runsCuts (firstCut ds (wornOf ds offset)) (runsFrom 0 verbs (endpointsOf 0 coords))
 
   -- refusal 26; "An empty list means no dashes"
-  unfoldable pub tooManyCuts : Float → List ℕ → List Float → Bool
-  tooManyCuts offset verbs coords = not (eqb (length ds) 0) && ltb cutLimit (pathCuts offset verbs coords)
+  unfoldable pub hasTooManyCuts : Float → List ℕ → List Float → Bool
+  hasTooManyCuts offset verbs coords = not (eqb (length ds) 0) && ltb cutLimit (pathCuts offset verbs coords)
 
 -- as far as is counted: one more than is accepted stands for every greater number
 unfoldable pub cappedOf : ℕ → ℕ

@@ -2,24 +2,29 @@
 //
 // ds holds the lengths of the pattern; points whose squared distance is below the limit are near; b is the first cut of every run.
 mod edge;
-mod run;
+mod run_cuts;
 
 use crate::edge::CUT_LIMIT;
-use crate::run::count_run;
+use crate::run_cuts::count_run;
 use dashes::pattern::Beat;
 use dashes::pattern::first_cut;
 use dashes::pattern::worn;
 use endpoint::EndpointId;
 use endpoint::endpoint_after;
+use path::Checked;
+use path::check_path;
 use path::verbs::END_CLOSED;
 use path::verbs::names_point;
+use refusals::Refusal;
 ghost use mathlib.Core.Path.{_≡_};
 ghost use Prim.Native.Nat.{_*_, _≤_, _<_};
 ghost use lib.ListN.{length};
 ghost use Rattle.endpoint.specs.Endpoint.{idLimit};
+ghost use Rattle.path.specs.Path.{checkAnswerOf};
 ghost use Rattle.path.specs.Verbs.{pointCount};
 ghost use Rattle.dashes.specs.Pattern.{wearLimit};
-ghost use Rattle.cuts.specs.Cuts.{cappedOf, pathCuts, tooManyCuts};
+ghost use Rattle.cuts.specs.Checked.{cutCheckedOf};
+ghost use Rattle.cuts.specs.Cuts.{cappedOf, pathCuts, hasTooManyCuts};
 ghost use Rattle.cuts.specs.Passes.{Inside, VerbCounted};
 
 // How far a pass over the verbs has come: the number of the current run's first endpoint, how many of its points are named, and the
@@ -86,10 +91,25 @@ pub fn count_cuts(ds: &[f32], offset: f32, limit: f32, verbs: &[u8], coords: &[f
 // Refusal 26 where it is true. An empty list has no cuts.
 pub fn has_too_many_cuts(ds: &[f32], offset: f32, limit: f32, verbs: &[u8], coords: &[f32]) -> bool
     requires { ⌜ (length (now coords) ≡ 2 * pointCount (now verbs)) × (length (now coords) < idLimit) ⌝ }
-    ensures { λ r. ⌜ r ≡ tooManyCuts limit (now (ds .entry)) offset (now (verbs .entry)) (now (coords .entry)) ⌝ }
+    ensures { λ r. ⌜ r ≡ hasTooManyCuts limit (now (ds .entry)) offset (now (verbs .entry)) (now (coords .entry)) ⌝ }
 {
     if ds.len() == 0 {
         return false;
     }
     count_cuts(ds, offset, limit, verbs, coords) > CUT_LIMIT
+}
+
+// Refusals 2 to 4, then 26.
+pub fn check_cut_path(verbs: &[u8], coords: &[f32], ds: &[f32], offset: f32, limit: f32) -> Checked
+    ensures { λ r. ⌜ checkAnswerOf r ≡ cutCheckedOf limit (now (ds .entry)) offset (now (verbs .entry)) (now (coords .entry)) ⌝ }
+{
+    match check_path(verbs, coords) {
+        Checked::Accepted => {
+            if has_too_many_cuts(ds, offset, limit, verbs, coords) {
+                return Checked::Refused(Refusal::TooManyCuts);
+            }
+            Checked::Accepted
+        }
+        Checked::Refused(r) => Checked::Refused(r),
+    }
 }

@@ -17,6 +17,10 @@ mostToPoint level = 4 * 2 ^ level
 abbrev pub levelLimit : ℕ
 levelLimit = 6
 
+-- the most points that the runs of a path have: its own and, where they are cut (W-213), one more to each run, and the cuts; none of the three are more than the verb limit
+abbrev pub drawnLimit : ℕ
+drawnLimit = 3 * verbLimit
+
 -- "State the counts' bounds once over the verb limit" (W-205): the most of either that a mesh has (mesh's `counts-limited`)
 abbrev pub countLimit : ℕ
-countLimit = mostToPoint levelLimit * verbLimit
+countLimit = mostToPoint levelLimit * drawnLimit

@@ -1,12 +1,12 @@
--- `cuts::run::count_run` meets its contract. Assumes nothing.
+-- `cuts::run_cuts::count_run` meets its contract. Assumes nothing.
 use Prim.Native.Nat.{_*_, _≤_}
 use mathlib.Core.Path.{_≡_, sym}
 use native.Mathlib.Omega.{arith}
 use lib.ListN.{length, take}
 use lib.Seq.{length-take-le}
 use Rattle.cuts.proofs.Counting.{run-empty, run-ended}
-use Rattle.cuts.proofs.run.count_run.Statement.{statement}
-use Rattle.cuts.proofs.run.count_run.Tie as tie
+use Rattle.cuts.proofs.run_cuts.count_run.Statement.{statement}
+use Rattle.cuts.proofs.run_cuts.count_run.Tie as tie
 
 -- from the look for the end back to the start
 abbrev entry : tie.After-kept-end → tie.Start

@@ -1,10 +1,10 @@
--- `cuts::run::count_points` meets its contract. The plan: the loop's invariant is Counting's `Counting`, from its start by one point a turn to the end of the points. Assumes nothing.
+-- `cuts::run_cuts::count_points` meets its contract. The plan: the loop's invariant is Counting's `Counting`, from its start by one point a turn to the end of the points. Assumes nothing.
 use borrow.Author.Needs.{needs}
 use Prim.Native.Nat.{_-_}
 use native.Mathlib.Omega.{arith}
 use Rattle.cuts.proofs.Counting.{Counting, counting-none, counting-one, counting-all}
-use Rattle.cuts.proofs.run.count_points.Statement.{statement}
-use Rattle.cuts.proofs.run.count_points.Tie as tie
+use Rattle.cuts.proofs.run_cuts.count_points.Statement.{statement}
+use Rattle.cuts.proofs.run_cuts.count_points.Tie as tie
 
 abbrev Inv-loop : tie.InvT-loop
 Inv-loop ds limit p first i end t₀ j₀ t j = Counting limit ds p (first .0) i t₀ j t

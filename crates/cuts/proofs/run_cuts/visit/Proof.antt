@@ -1,9 +1,9 @@
--- `cuts::run::visit` meets its contract. Assumes nothing.
+-- `cuts::run_cuts::visit` meets its contract. Assumes nothing.
 use borrow.Author.Needs.{needs}
 use mathlib.Core.Path.{sym, _∙_}
 use Rattle.cuts.proofs.Counting.{near-visited, far-visited}
-use Rattle.cuts.proofs.run.visit.Statement.{statement}
-use Rattle.cuts.proofs.run.visit.Tie as tie
+use Rattle.cuts.proofs.run_cuts.visit.Statement.{statement}
+use Rattle.cuts.proofs.run_cuts.visit.Tie as tie
 
 is-near-requires : tie.Need-is-near-requires
 is-near-requires c κs = search needs

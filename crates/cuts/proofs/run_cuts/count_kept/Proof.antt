@@ -1,4 +1,4 @@
--- `cuts::run::count_kept` meets its contract. The plan: no second point is kept (`run-alone`), or the count goes through all points (`run-through`), and on to the first
+-- `cuts::run_cuts::count_kept` meets its contract. The plan: no second point is kept (`run-alone`), or the count goes through all points (`run-through`), and on to the first
 -- where the run is closed. Assumes nothing.
 use borrow.Author.Needs.{needs}
 use Prim.Native.Nat.{_+_}
@@ -11,8 +11,8 @@ use Rattle.kept.specs.Points.{endpointsOf, endpointAt}
 use Rattle.cuts.specs.Cuts.{keptCuts, cappedOf}
 use Rattle.cuts.specs.Counts.{goesOn}
 use Rattle.cuts.proofs.Counting.{start-bounded, run-alone, run-through, all-open, all-closed}
-use Rattle.cuts.proofs.run.count_kept.Statement.{statement}
-use Rattle.cuts.proofs.run.count_kept.Tie as tie
+use Rattle.cuts.proofs.run_cuts.count_kept.Statement.{statement}
+use Rattle.cuts.proofs.run_cuts.count_kept.Tie as tie
 
 first-far-requires : tie.Need-first-far-requires
 first-far-requires c κs = (c .before .before .pre .1, c .before .before .pre .2)
