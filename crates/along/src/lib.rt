@@ -134,7 +134,7 @@ fn pass_point(
 }
 
 // The points of a stretch.
-fn pass_points(
+pub fn pass_points(
     v: &mut [f32],
     src: &mut [u32],
     t: &mut [Index],

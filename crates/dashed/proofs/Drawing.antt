@@ -17,7 +17,6 @@ use Rattle.pieces.specs.declared.Place.{Place}
 use Rattle.pieces.proofs.Pieces.{joined-none, puts-none, puts-both, fits-front, fits-back, reached, parts-fit, parts-put}
 use Rattle.options.specs.declared.Stroke.{Stroke}
 use Rattle.kept.specs.Kept.{keptPoints}
-use Rattle.kept.proofs.Numbered.{Numbered}
 use Rattle.joints.specs.Joint.{jointsOf}
 use Rattle.strip.specs.Strip.{startOf, pieceOf}
 use Rattle.strip.proofs.Pending.{puts-piece}
@@ -29,11 +28,12 @@ use Rattle.woven.specs.Woven.{wovenOf, roundPiece, overStrip}
 use Rattle.woven.proofs.Runs.{drawn}
 use Rattle.plait.proofs.Rounds.{round-none}
 use Rattle.dashes.specs.Dashes.{dashesFrom}
-use Rattle.feed.specs.Feed.{comes}
+use Rattle.feed.specs.Feed.{Counted, comes}
 use Rattle.feed.specs.Trail.{dashPoints, trailPoints, trailBehind, trailDashes, Follows, TrailFits, Begins}
 use Rattle.feed.specs.declared.trail.Next.{Next}
 use Rattle.feed.specs.declared.trail.Trail.{Trail}
-use Rattle.feed.proofs.Trailing.{dashes-split, trail-numbered}
+use Rattle.feed.proofs.Trailing.{dashes-split, trail-counted}
+use Rattle.dashed.proofs.Following.{fits-numbered}
 use Rattle.dashed.specs.Dashed.{dashPiece, dashesPiece}
 use Rattle.dashed.specs.Passes.{trailKept, dashKept, DashFits, Strips, Draws, nextPiece}
 use Rattle.dashed.specs.declared.Dash.{Dash}
@@ -73,7 +73,7 @@ module _ (pass : Pass) (r : Round) (p : List Float) (first : ℕ) (ds : List Flo
     pub line-round : Fits (pass .write) (from base) (roundPiece false o r base kept) l → {l2 : Lists} {k : Place}
         → WeftPasses (pass .write) (overStrip base (s .strip .place .vertices)) (wovenOf false o r base kept) l1 l2 k
         → Draws pass p first ds (d .trail) (from base) (roundPiece false o r base kept) l l2 (record { place = k; feed = s .feed })
-    line-round h g = record { puts = drawn false o r base kept h (f .numbered) (e .strip) g; leaves = e .leaves }
+    line-round h g = record { puts = drawn false o r base kept h (fits-numbered f) (e .strip) g; leaves = e .leaves }
 
   -- ---- a dash from its first point
   module _ (t : Trail) (w : TrailFits (o .near) p first ds t) (n : Next) (e : Follows (o .near) p first ds t n) where
@@ -82,7 +82,7 @@ module _ (pass : Pass) (r : Round) (p : List Float) (first : ℕ) (ds : List Flo
       kept-is = ap (λ (qs : List Endpoint). t .last ∷ qs) (e .points) ∙ rw found
 
       pub dash-fits : DashFits (o .near) p first ds (record { from = t .last; trail = n .trail })
-      dash-fits = record { feed = e .fits; numbered = subst (All Numbered) kept-is (trail-numbered (o .near) p first ds t w) }
+      dash-fits = record { feed = e .fits; numbered = subst (All Counted) kept-is (trail-counted (o .near) p first ds t w) }
 
       pub piece-is : (base : VertexId) → dashPiece o r base (trailKept (o .near) p first ds t) ≡ roundPiece false o r base (dashKept (o .near) p first ds (record { from = t .last; trail = n .trail }))
       unfolding dashPiece

@@ -1,6 +1,5 @@
--- For the layers above: `Facts`, demand 3 of the dashes. `Following` is a dash point by point, `Stripping` the strip along it, `Weaving` what is woven into that,
--- `Drawing` a dash and those behind it, `Starting` the first dash of a run.
-pub mod Facts
+-- `Following` is a dash point by point, `Stripping` the strip along it, `Weaving` what is woven into that, `Drawing` a dash and those behind it, `Starting` the first
+-- dash of a run.
 mod Following
 mod Stripping
 mod Weaving

@@ -8,6 +8,7 @@ use lib.Ieee.{Float}
 use Rattle.endpoint.specs.declared.Endpoint.{Endpoint}
 use Rattle.endpoint.specs.declared.EndpointData.{EndpointData}
 use Rattle.endpoint.specs.declared.VertexId.{VertexId}
+use Rattle.lists.specs.All.{All}
 use Rattle.pieces.specs.Piece.{Lists}
 use Rattle.options.specs.declared.Stroke.{Stroke}
 use Rattle.joints.specs.Joint.{startCapOf, endCapOf, jointsFrom, jointsOf}
@@ -16,17 +17,18 @@ use Rattle.joints.specs.declared.leg.Leg.{Leg}
 use Rattle.strip.specs.Strip.{StripFits, StripPasses, startOf}
 use Rattle.strip.specs.declared.Strip.{Strip}
 use Rattle.strip.proofs.Pending.{has-front, has-back, puts-both, Midway, midway-start, midway-has, midway-put, midway-end}
-use Rattle.along.specs.Points.{advanced}
+use Rattle.kept.specs.Points.{endpointsOf}
+use Rattle.along.specs.Points.{advanced, visitOf, walked, passed}
 use Rattle.along.specs.Walk.{Walks}
 use Rattle.along.specs.declared.Pass.{Pass}
 use Rattle.along.specs.declared.Walk.{Walk}
-use Rattle.feed.specs.Feed.{FeedFits}
+use Rattle.feed.specs.Feed.{Counted, FeedFits}
 use Rattle.feed.specs.Trail.{trailPoints, nextPoints, nextBehind, Follows}
 use Rattle.feed.specs.declared.trail.Next.{Next}
 use Rattle.feed.specs.declared.trail.Trail.{Trail}
 use Rattle.dashed.specs.Passes.{Strips}
 use Rattle.dashed.specs.declared.strips.Stripped.{Stripped}
-use Rattle.dashed.proofs.Following.{behind-on, points-none, behind-none}
+use Rattle.dashed.proofs.Following.{behind-on, counted-on, counted-here, points-none, behind-none}
 
 joints-on : (o : Stroke) (leg : Leg) (q : Endpoint) (qs : List Endpoint) → jointsFrom false o leg (q ∷ qs) ≡ advanced o leg q ++ jointsFrom false o (nextLegOf (o .«half_width») leg q) qs
 unfolding jointsFrom
@@ -35,6 +37,15 @@ joints-on o leg q qs = refl
 joints-end : (o : Stroke) (leg : Leg) → jointsFrom false o leg [] ≡ endCapOf o leg ∷ []
 unfolding jointsFrom
 joints-end o leg = refl
+
+-- a point is passed as a list of one
+pub one-passed : (o : Stroke) (leg : Leg) (q : Endpoint) → passed true o leg (endpointsOf (q .id .0) (q .position .x ∷ q .position .y ∷ [])) ≡ advanced o leg q
+unfolding endpointsOf jointsFrom
+one-passed o leg q = refl
+
+pub one-walked : (o : Stroke) (leg : Leg) (q : Endpoint) → walked true o leg (endpointsOf (q .id .0) (q .position .x ∷ q .position .y ∷ [])) ≡ nextLegOf (o .«half_width») leg q
+unfolding endpointsOf walked visitOf
+one-walked o leg q = refl
 
 module _ (pass : Pass) (p : List Float) (first : ℕ) (ds : List Float) where
   abbrev o : Stroke
@@ -48,14 +59,19 @@ module _ (pass : Pass) (p : List Float) (first : ℕ) (ds : List Float) where
     pub midway : Midway (pass .write) (w0 .strip) (rest w0 n0) l0 (rest w n) (w .strip) l
     pub behind : nextBehind (o .near) p first ds n0 ≡ nextBehind (o .near) p first ds n
     pub fits : FeedFits (o .near) p first ds (n .trail .feed)
+    pub counted : All Counted (nextPoints (o .near) p first ds n)
 
-  pub stripping-none : (w : Walk) (n : Next) (l : Lists) → FeedFits (o .near) p first ds (n .trail .feed) → Stripping w n l w n l
-  stripping-none w n l f = record { midway = midway-start; behind = refl; fits = f }
+  -- the first look is from the trail t
+  pub stripping-none : (w : Walk) (t : Trail) (n : Next) (l : Lists) → Follows (o .near) p first ds t n → All Counted (trailPoints (o .near) p first ds t) → Stripping w n l w n l
+  stripping-none w t n l e g = record { midway = midway-start; behind = refl; fits = e .fits; counted = rw (e .points) at g }
 
   module _ {w0 : Walk} {n0 : Next} {l0 : Lists} {w : Walk} {n : Next} {l : Lists} (s : Stripping w0 n0 l0 w n l) where
     module _ (found : n .found ≡ true) where
       next : rest w n ≡ advanced o (w .leg) (n .trail .last) ++ jointsFrom false o (nextLegOf (o .«half_width») (w .leg) (n .trail .last)) (trailPoints (o .near) p first ds (n .trail))
       next = rw found (joints-on o (w .leg) (n .trail .last) (trailPoints (o .near) p first ds (n .trail)))
+
+      pub turn-counted : Counted (n .trail .last)
+      turn-counted = counted-here (o .near) p first ds n found (s .counted)
 
       pub turn-has : StripFits (pass .write) (w0 .strip) (rest w0 n0) l0 → StripFits (pass .write) (w .strip) (advanced o (w .leg) (n .trail .last)) l
       turn-has h = midway-has (advanced o (w .leg) (n .trail .last)) _ h (rw next at (s .midway))
@@ -66,6 +82,7 @@ module _ (pass : Pass) (p : List Float) (first : ℕ) (ds : List Float) where
         midway = rw (e .leg, ← f .points) (midway-put (advanced o (w .leg) (n .trail .last)) _ (rw next at (s .midway)) (e .puts));
         behind = s .behind ∙ behind-on (o .near) p first ds n found m f;
         fits = f .fits;
+        counted = counted-on (o .near) p first ds n found m f (s .counted);
       }
 
     module _ (found : n .found ≡ false) where

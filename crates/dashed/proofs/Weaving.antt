@@ -22,16 +22,17 @@ use Rattle.bends.specs.Weave.{WeaveFits, WeavePasses}
 use Rattle.bends.specs.declared.Bend.{Bend}
 use Rattle.bends.specs.declared.Weave.{Weave}
 use Rattle.bends.proofs.Pending.{Midway, midway-start, midway-has, midway-put, midway-end}
-use Rattle.weave.specs.Points.{bendsFrom, bendsOf, endBend, advanced}
+use Rattle.kept.specs.Points.{endpointsOf}
+use Rattle.weave.specs.Points.{bendsFrom, bendsOf, endBend, advanced, passed}
 use Rattle.weave.specs.Walk.{Walks, openedOf}
 use Rattle.weave.specs.declared.Walk.{Walk}
 use Rattle.woven.specs.Woven.{wovenOf, WovenFits}
 use Rattle.woven.proofs.Runs.{cap-fits, open-fits, open-passes}
-use Rattle.feed.specs.Feed.{FeedFits}
+use Rattle.feed.specs.Feed.{Counted, FeedFits}
 use Rattle.feed.specs.Trail.{trailPoints, nextPoints, Follows}
 use Rattle.feed.specs.declared.trail.Next.{Next}
 use Rattle.feed.specs.declared.trail.Trail.{Trail}
-use Rattle.dashed.proofs.Following.{points-none}
+use Rattle.dashed.proofs.Following.{counted-on, counted-here, points-none}
 
 bends-on : (o : Stroke) (leg : Leg) (q : Endpoint) (qs : List Endpoint) → bendsFrom false o leg (q ∷ qs) ≡ advanced o leg q ++ bendsFrom false o (nextLegOf (o .«half_width») leg q) qs
 unfolding bendsFrom
@@ -40,6 +41,11 @@ bends-on o leg q qs = refl
 bends-end : (o : Stroke) (leg : Leg) → bendsFrom false o leg [] ≡ endBend o leg ∷ []
 unfolding bendsFrom
 bends-end o leg = refl
+
+-- a point is passed as a list of one
+pub one-woven : (o : Stroke) (leg : Leg) (q : Endpoint) → passed true o leg (endpointsOf (q .id .0) (q .position .x ∷ q .position .y ∷ [])) ≡ advanced o leg q
+unfolding endpointsOf bendsFrom
+one-woven o leg q = refl
 
 module _ (pass : Pass) (r : Round) (p : List Float) (first : ℕ) (ds : List Float) where
   abbrev o : Stroke
@@ -52,23 +58,29 @@ module _ (pass : Pass) (r : Round) (p : List Float) (first : ℕ) (ds : List Flo
   pub record Weaving (w0 : Walk) (n0 : Next) (l0 : Lists) (w : Walk) (n : Next) (l : Lists) : Type 0 where
     pub midway : Midway (pass .write) o r (w0 .weave) (rest w0 n0) l0 (rest w n) (w .weave) l
     pub fits : FeedFits (o .near) p first ds (n .trail .feed)
+    pub counted : All Counted (nextPoints (o .near) p first ds n)
 
-  pub weaving-none : (w : Walk) (n : Next) (l : Lists) → FeedFits (o .near) p first ds (n .trail .feed) → Weaving w n l w n l
-  weaving-none w n l f = record { midway = midway-start; fits = f }
+  -- the first look is from the trail t
+  pub weaving-none : (w : Walk) (t : Trail) (n : Next) (l : Lists) → Follows (o .near) p first ds t n → All Counted (trailPoints (o .near) p first ds t) → Weaving w n l w n l
+  weaving-none w t n l e g = record { midway = midway-start; fits = e .fits; counted = rw (e .points) at g }
 
   module _ {w0 : Walk} {n0 : Next} {l0 : Lists} {w : Walk} {n : Next} {l : Lists} (s : Weaving w0 n0 l0 w n l) where
     module _ (found : n .found ≡ true) where
       next : rest w n ≡ advanced o (w .leg) (n .trail .last) ++ bendsFrom false o (nextLegOf (o .«half_width») (w .leg) (n .trail .last)) (trailPoints (o .near) p first ds (n .trail))
       next = rw found (bends-on o (w .leg) (n .trail .last) (trailPoints (o .near) p first ds (n .trail)))
 
+      pub turn-counted : Counted (n .trail .last)
+      turn-counted = counted-here (o .near) p first ds n found (s .counted)
+
       pub turn-has : WeaveFits (pass .write) o r (w0 .weave) (rest w0 n0) l0 → WeaveFits (pass .write) o r (w .weave) (advanced o (w .leg) (n .trail .last)) l
       turn-has h = midway-has (advanced o (w .leg) (n .trail .last)) _ h (rw next at (s .midway))
 
       pub turn : {w1 : Walk} {l1 : Lists} {m : Next} → Walks pass r (advanced o (w .leg) (n .trail .last)) (nextLegOf (o .«half_width») (w .leg) (n .trail .last)) w l l1 w1
           → Follows (o .near) p first ds (n .trail) m → Weaving w0 n0 l0 w1 m l1
-      turn e f = record {
+      turn {m = m} e f = record {
         midway = rw (e .leg, ← f .points) (midway-put (advanced o (w .leg) (n .trail .last)) _ (rw next at (s .midway)) (e .puts));
         fits = f .fits;
+        counted = counted-on (o .near) p first ds n found m f (s .counted);
       }
 
     module _ (found : n .found ≡ false) where

@@ -1,10 +1,9 @@
 -- What the passes along a dash need and do, and where the feed stands behind it. Assumes nothing.
-use Prim.Native.Nat.{ℕ, _<_}
+use Prim.Native.Nat.{ℕ}
 use mathlib.Core.Path.{_≡_}
 use mathlib.Core.Bool.{Bool}
 use mathlib.Core.List.{List, _∷_}
 use lib.Ieee.{Float}
-use Rattle.endpoint.specs.Endpoint.{idLimit}
 use Rattle.endpoint.specs.declared.Endpoint.{Endpoint}
 use Rattle.endpoint.specs.declared.EndpointData.{EndpointData}
 use Rattle.lists.specs.All.{All}
@@ -16,7 +15,7 @@ use Rattle.strip.specs.declared.Strip.{Strip}
 use Rattle.along.specs.declared.Pass.{Pass}
 use Rattle.fans.specs.declared.Round.{Round}
 use Rattle.dashes.specs.Dashes.{dashesOf}
-use Rattle.feed.specs.Feed.{comes, FeedFits}
+use Rattle.feed.specs.Feed.{Counted, comes, FeedFits}
 use Rattle.feed.specs.Trail.{trailPoints, trailBehind, trailDashes, TrailFits}
 use Rattle.feed.specs.declared.Feed.{Feed}
 use Rattle.feed.specs.declared.trail.Trail.{Trail}
@@ -37,7 +36,7 @@ module _ (limit : Float) (p : List Float) (first : ℕ) where
 
     pub record DashFits (d : Dash) : Type 0 where
       pub feed : FeedFits limit p first ds (d .trail .feed)
-      pub numbered : All (λ (e : Endpoint). e .id .0 < idLimit) (dashKept d)
+      pub numbered : All Counted (dashKept d)
 
     -- a feed behind the dash
     pub record Leaves (t : Trail) (f : Feed) : Type 0 where

@@ -2,7 +2,9 @@
 use crate::Dash;
 use along::At;
 use along::Pass;
+use along::Stretch;
 use bends::Weave;
+use endpoint::Endpoint;
 use endpoint::EndpointId;
 use endpoint::VertexId;
 use endpoint::vertex_after;
@@ -13,7 +15,7 @@ use joints::leg::leg_of;
 use pieces::Index;
 use pieces::Place;
 use weave::Walk;
-use weave::pass_kept;
+use weave::pass_points;
 use weave::strips::begin;
 use weave::strips::finish;
 use woven::place_of;
@@ -21,11 +23,39 @@ ghost use mathlib.Core.Bool.{false};
 ghost use Rattle.pieces.specs.Piece.{lent, from};
 ghost use Rattle.fans.specs.Weft.{WeftPasses};
 ghost use Rattle.bends.specs.Weave.{WeaveFits, WeavePasses};
-ghost use Rattle.weave.specs.Points.{bendsFrom};
+ghost use Rattle.joints.specs.Leg.{nextLegOf};
+ghost use Rattle.lists.specs.All.{All};
+ghost use Rattle.weave.specs.Points.{bendsFrom, advanced};
+ghost use Rattle.weave.specs.Walk.{Walks};
 ghost use Rattle.woven.specs.Woven.{wovenOf, overStrip, WovenFits};
-ghost use Rattle.feed.specs.Feed.{FeedFits};
+ghost use Rattle.feed.specs.Feed.{Counted, FeedFits};
 ghost use Rattle.feed.specs.Trail.{trailPoints};
 ghost use Rattle.dashed.specs.Passes.{dashKept, DashFits};
+
+// The next point, by the pass that runs take along their points, as in strips.
+fn weave_one(
+    v: &mut [f32],
+    src: &mut [u32],
+    t: &mut [Index],
+    pass: Pass,
+    r: Round,
+    w: Walk,
+    q: Endpoint,
+) -> Walk
+    requires { ⌜ Counted q ⌝ }
+    requires { ⌜ WeaveFits (pass .write) (pass .stroke) r (w .weave) (advanced (pass .stroke) (w .leg) q) (lent (now v) (now src) (now t)) ⌝ }
+    ensures { λ k. ⌜ Walks pass r (advanced (pass .stroke) (w .leg) q) (nextLegOf (pass .stroke .«half_width») (w .leg) q) w (lent (now (v .entry)) (now (src .entry)) (now (t .entry))) (lent (now (v .exit)) (now (src .exit)) (now (t .exit))) k ⌝ }
+{
+    let at = q.position;
+    let xy = [at.x, at.y];
+    let id = q.id;
+    let one = Stretch {
+        first: id,
+        from: 0,
+        sure: true,
+    };
+    pass_points(v, src, t, pass, r, w, &xy, one)
+}
 
 // The points of a dash that are to come, and its end cap.
 fn weave_on(
@@ -40,7 +70,7 @@ fn weave_on(
     ds: &[f32],
     trail: Trail,
 ) -> Weave
-    requires { ⌜ FeedFits (pass .stroke .near) (now p) (first .0) (now ds) (trail .feed) ⌝ }
+    requires { ⌜ FeedFits (pass .stroke .near) (now p) (first .0) (now ds) (trail .feed) × All Counted (trailPoints (pass .stroke .near) (now p) (first .0) (now ds) trail) ⌝ }
     requires { ⌜ WeaveFits (pass .write) (pass .stroke) r (w .weave) (bendsFrom false (pass .stroke) (w .leg) (trailPoints (pass .stroke .near) (now p) (first .0) (now ds) trail)) (lent (now v) (now src) (now t)) ⌝ }
     ensures { λ q. ⌜ WeavePasses (pass .write) (pass .stroke) r (bendsFrom false (pass .stroke) (w .leg) (trailPoints (pass .stroke .near) (now (p .entry)) (first .0) (now (ds .entry)) trail)) (w .weave) (lent (now (v .entry)) (now (src .entry)) (now (t .entry))) (lent (now (v .exit)) (now (src .exit)) (now (t .exit))) q ⌝ }
 {
@@ -50,7 +80,7 @@ fn weave_on(
     while n.found {
         let on = n.trail;
         let q = on.last;
-        w = pass_kept(v, src, t, pass, r, w, q);
+        w = weave_one(v, src, t, pass, r, w, q);
         n = next_point(o.near, p, first, ds, on);
     }
     finish(v, src, t, pass, r, w)

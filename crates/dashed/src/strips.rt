@@ -2,10 +2,12 @@
 use crate::Dash;
 use along::At;
 use along::Pass;
+use along::Stretch;
 use along::Walk;
-use along::pass_kept;
+use along::pass_points;
 use along::strips::begin;
 use along::strips::finish;
+use endpoint::Endpoint;
 use endpoint::EndpointId;
 use feed::Feed;
 use feed::trail::Trail;
@@ -15,16 +17,45 @@ use pieces::Index;
 use strip::Strip;
 ghost use mathlib.Core.Bool.{false};
 ghost use Rattle.joints.specs.Joint.{jointsFrom, jointsOf};
+ghost use Rattle.joints.specs.Leg.{nextLegOf};
+ghost use Rattle.lists.specs.All.{All};
+ghost use Rattle.along.specs.Points.{advanced};
+ghost use Rattle.along.specs.Walk.{Walks};
 ghost use Rattle.pieces.specs.Piece.{lent};
 ghost use Rattle.strip.specs.Strip.{StripFits, startOf};
-ghost use Rattle.feed.specs.Feed.{FeedFits};
+ghost use Rattle.feed.specs.Feed.{Counted, FeedFits};
 ghost use Rattle.feed.specs.Trail.{trailPoints};
-ghost use Rattle.dashed.specs.Passes.{dashKept, Strips};
+ghost use Rattle.dashed.specs.Passes.{dashKept, DashFits, Strips};
 
 // A dash's strip, and the feed behind the dash.
 pub struct Stripped {
     pub strip: Strip,
     pub feed: Feed,
+}
+
+// The next point, by the pass that runs take along their points: were a step of that pass called from here too, the compiler would copy it into
+// neither, and every point of every run would cost more (docs/SPEED.md).
+fn strip_one(
+    v: &mut [f32],
+    src: &mut [u32],
+    t: &mut [Index],
+    pass: Pass,
+    w: Walk,
+    q: Endpoint,
+) -> Walk
+    requires { ⌜ Counted q ⌝ }
+    requires { ⌜ StripFits (pass .write) (w .strip) (advanced (pass .stroke) (w .leg) q) (lent (now v) (now src) (now t)) ⌝ }
+    ensures { λ r. ⌜ Walks (pass .write) (advanced (pass .stroke) (w .leg) q) (nextLegOf (pass .stroke .«half_width») (w .leg) q) w (lent (now (v .entry)) (now (src .entry)) (now (t .entry))) (lent (now (v .exit)) (now (src .exit)) (now (t .exit))) r ⌝ }
+{
+    let at = q.position;
+    let xy = [at.x, at.y];
+    let id = q.id;
+    let one = Stretch {
+        first: id,
+        from: 0,
+        sure: true,
+    };
+    pass_points(v, src, t, pass, w, &xy, one)
 }
 
 // The points of a dash that are to come, and its end cap.
@@ -39,7 +70,7 @@ fn strip_on(
     ds: &[f32],
     trail: Trail,
 ) -> Stripped
-    requires { ⌜ FeedFits (pass .stroke .near) (now p) (first .0) (now ds) (trail .feed) ⌝ }
+    requires { ⌜ FeedFits (pass .stroke .near) (now p) (first .0) (now ds) (trail .feed) × All Counted (trailPoints (pass .stroke .near) (now p) (first .0) (now ds) trail) ⌝ }
     requires { ⌜ StripFits (pass .write) (w .strip) (jointsFrom false (pass .stroke) (w .leg) (trailPoints (pass .stroke .near) (now p) (first .0) (now ds) trail)) (lent (now v) (now src) (now t)) ⌝ }
     ensures { λ r. ⌜ Strips pass (now (p .entry)) (first .0) (now (ds .entry)) trail (jointsFrom false (pass .stroke) (w .leg) (trailPoints (pass .stroke .near) (now (p .entry)) (first .0) (now (ds .entry)) trail)) (w .strip) (lent (now (v .entry)) (now (src .entry)) (now (t .entry))) (lent (now (v .exit)) (now (src .exit)) (now (t .exit))) r ⌝ }
 {
@@ -49,7 +80,7 @@ fn strip_on(
     while n.found {
         let on = n.trail;
         let q = on.last;
-        w = pass_kept(v, src, t, pass, w, q);
+        w = strip_one(v, src, t, pass, w, q);
         n = next_point(o.near, p, first, ds, on);
     }
     let end = n.trail;
@@ -69,7 +100,7 @@ pub fn strip_dash(
     ds: &[f32],
     d: Dash,
 ) -> Stripped
-    requires { ⌜ FeedFits (pass .stroke .near) (now p) (at .endpoint .0) (now ds) (d .trail .feed) ⌝ }
+    requires { ⌜ DashFits (pass .stroke .near) (now p) (at .endpoint .0) (now ds) d ⌝ }
     requires { ⌜ StripFits (pass .write) (startOf (at .vertex)) (jointsOf false (pass .stroke) (dashKept (pass .stroke .near) (now p) (at .endpoint .0) (now ds) d)) (lent (now v) (now src) (now t)) ⌝ }
     ensures { λ r. ⌜ Strips pass (now (p .entry)) (at .endpoint .0) (now (ds .entry)) (d .trail) (jointsOf false (pass .stroke) (dashKept (pass .stroke .near) (now (p .entry)) (at .endpoint .0) (now (ds .entry)) d)) (startOf (at .vertex)) (lent (now (v .entry)) (now (src .entry)) (now (t .entry))) (lent (now (v .exit)) (now (src .exit)) (now (t .exit))) r ⌝ }
 {

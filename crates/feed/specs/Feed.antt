@@ -26,10 +26,14 @@ unfoldable pub markAt : Bool → Endpoint → Mark
 markAt true q = Cut q
 markAt false q = Corner q
 
--- a u32 holds the endpoint number of a mark
+-- a u32 holds the number of an endpoint, also where the list of its two coordinates begins with it
+abbrev pub Counted : Endpoint → Type 0
+Counted q = q .id .0 + 2 < idLimit
+
+-- so of every mark
 unfoldable pub MarkNumbered : Mark → Type 0
-MarkNumbered (Cut q) = q .id .0 < idLimit
-MarkNumbered (Corner q) = q .id .0 < idLimit
+MarkNumbered (Cut q) = Counted q
+MarkNumbered (Corner q) = Counted q
 
 -- behind an edge's own marks: the marks of the edges through ps
 unfoldable pub onward : List Float → Spot → List Endpoint → List Mark

@@ -2,6 +2,7 @@
 use borrow.Author.Needs.{needs}
 use mathlib.Core.Bool.{false}
 use Rattle.woven.proofs.Runs.{strip-fits, arcs-fit}
+use Rattle.dashed.proofs.Following.{fits-numbered}
 use Rattle.dashed.proofs.Drawing.{line-plain, line-round}
 use Rattle.dashed.proofs.draw_line.Statement.{statement}
 use Rattle.dashed.proofs.draw_line.Tie as tie
@@ -9,13 +10,13 @@ use Rattle.dashed.proofs.draw_line.Tie as tie
 strip-dash-requires : tie.Need-strip-dash-requires
 strip-dash-requires c κs =
     let start = c .before .before .before .before .before .before .before .before in
-    (start .pre .0 .feed, strip-fits false (start .args .pass .stroke) (start .args .r) (start .args .at .vertex) _ (start .pre .1 .1) (start .pre .0 .numbered))
+    (start .pre .0, strip-fits false (start .args .pass .stroke) (start .args .r) (start .args .at .vertex) _ (start .pre .1 .1) (fits-numbered (start .pre .0)))
 
 weave-behind-requires : tie.Need-weave-behind-requires
 weave-behind-requires c κs =
     let at-strip-dash = c .before .before .before .before .before .before .before .before .before .before .before .before .before .before in
     let start = at-strip-dash .before .before .before .before .before .before .before .before .before in
-    (start .pre .0, arcs-fit false (start .args .pass .stroke) (start .args .r) (start .args .at .vertex) _ (start .pre .1 .1) (start .pre .0 .numbered) (at-strip-dash .strip-dash .ensures .strip) (start .pre .1 .0))
+    (start .pre .0, arcs-fit false (start .args .pass .stroke) (start .args .r) (start .args .at .vertex) _ (start .pre .1 .1) (fits-numbered (start .pre .0)) (at-strip-dash .strip-dash .ensures .strip) (start .pre .1 .0))
 
 same-length : tie.Need-same-length
 same-length c = search needs

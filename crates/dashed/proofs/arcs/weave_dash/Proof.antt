@@ -1,5 +1,6 @@
 -- `dashed::arcs::weave_dash` meets its contract. Assumes nothing.
 use borrow.Author.Needs.{needs}
+use Rattle.dashed.proofs.Following.{fits-numbered}
 use Rattle.dashed.proofs.Weaving.{begin-has, on-has, dash-woven}
 use Rattle.dashed.proofs.arcs.weave_dash.Statement.{statement}
 use Rattle.dashed.proofs.arcs.weave_dash.Tie as tie
@@ -17,7 +18,7 @@ weave-on-requires c κs =
     let at-begin = c .before .before .before in
     let at-leg-of = at-begin .before in
     let start = at-leg-of .before .before .before .before .before .before .before .before in
-    (start .pre .0 .feed, on-has (start .args .pass .stroke) (start .args .r) _ _ _ (at-leg-of .leg-of .ensures) (start .args .at .vertex) (start .pre .1) (at-begin .begin .ensures) (start .pre .0 .numbered))
+    ((start .pre .0 .feed, start .pre .0 .numbered .1 .1), on-has (start .args .pass .stroke) (start .args .r) _ _ _ (at-leg-of .leg-of .ensures) (start .args .at .vertex) (start .pre .1) (at-begin .begin .ensures) (fits-numbered (start .pre .0)))
 
 same-length : tie.Need-same-length
 same-length c = search needs

@@ -18,7 +18,7 @@ strip-on-requires c κs =
     let at-begin = c .before .before .before .before .before .before .before .before .before in
     let at-leg-of = at-begin .before .before .before .before in
     let start = at-leg-of .before .before .before .before .before .before .before .before in
-    (start .pre .0, on-has (start .args .pass) _ _ _ (at-leg-of .leg-of .ensures) (start .pre .1) (at-begin .begin .ensures))
+    ((start .pre .0 .feed, start .pre .0 .numbered .1 .1), on-has (start .args .pass) _ _ _ (at-leg-of .leg-of .ensures) (start .pre .1) (at-begin .begin .ensures))
 
 same-length : tie.Need-same-length
 same-length c = search needs

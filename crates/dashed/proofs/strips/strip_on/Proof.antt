@@ -5,7 +5,7 @@ use lib.ListN.{length}
 use Rattle.pieces.specs.Piece.{lent}
 use Rattle.feed.specs.Trail.{nextPoints}
 use Rattle.dashed.proofs.Following.{fewer-on}
-use Rattle.dashed.proofs.Stripping.{Stripping, stripping-none, turn-has, turn, end-has, end}
+use Rattle.dashed.proofs.Stripping.{Stripping, stripping-none, turn-counted, turn-has, turn, end-has, end}
 use Rattle.dashed.proofs.strips.strip_on.Statement.{statement}
 use Rattle.dashed.proofs.strips.strip_on.Tie as tie
 
@@ -18,18 +18,20 @@ abbrev μ-loop : tie.MeasureT-loop
 μ-loop v₀ src₀ t₀ pass p first ds o w₀ n₀ v src t w n = length (nextPoints (pass .stroke .near) p (first .0) ds n)
 
 next-point-requires : tie.Need-next-point-requires Inv-loop μ-loop
-next-point-requires c κs = c .before .before .before .before .before .before .pre .0
+next-point-requires c κs = c .before .before .before .before .before .before .pre .0 .0
 
 loop-holds : tie.Need-loop-holds Inv-loop μ-loop
-loop-holds c = (stripping-none _ _ _ _ _ _ _ (c .next-point .ensures .fits), refl, refl, refl)
+loop-holds c =
+    let start = c .before .before .before .before .before .before .before in
+    (stripping-none _ _ _ _ _ _ _ _ (c .next-point .ensures) (start .pre .0 .1), refl, refl, refl)
 
-pass-kept-requires : tie.Need-pass-kept-requires Inv-loop μ-loop
-pass-kept-requires c κs =
+strip-one-requires : tie.Need-strip-one-requires Inv-loop μ-loop
+strip-one-requires c κs =
     let at-loop-test = c .before .before .before .before .before in
     let at-loop = at-loop-test .before in
     let at-next-point = at-loop .before in
     let start = at-next-point .before .before .before .before .before .before .before in
-    turn-has _ _ _ _ (at-loop .loop .inv .0) (at-loop-test .loop-test .taken) (rw (at-next-point .next-point .ensures .points) at (start .pre .1))
+    (turn-counted _ _ _ _ (at-loop .loop .inv .0) (at-loop-test .loop-test .taken), turn-has _ _ _ _ (at-loop .loop .inv .0) (at-loop-test .loop-test .taken) (rw (at-next-point .next-point .ensures .points) at (start .pre .1)))
 
 next-point-requires-2 : tie.Need-next-point-requires-2 Inv-loop μ-loop
 next-point-requires-2 c κs = c .before .before .before .before .before .before .before .before .before .before .before .before .before .loop .inv .0 .fits
@@ -41,11 +43,11 @@ loop-less c =
 
 loop-again : tie.Need-loop-again Inv-loop μ-loop
 loop-again c =
-    let at-pass-kept = c .before .before .before .before .before .before .before in
-    let at-loop-test = at-pass-kept .before .before .before .before .before .before in
+    let at-strip-one = c .before .before .before .before .before .before .before in
+    let at-loop-test = at-strip-one .before .before .before .before .before .before in
     let at-loop = at-loop-test .before in
     let l = at-loop .loop in
-    (turn _ _ _ _ (l .inv .0) (at-loop-test .loop-test .taken) (at-pass-kept .pass-kept .ensures) (c .next-point2 .ensures), search (needs, l .inv .1), search (needs, l .inv .2), search (needs, l .inv .3))
+    (turn _ _ _ _ (l .inv .0) (at-loop-test .loop-test .taken) (at-strip-one .strip-one .ensures) (c .next-point2 .ensures), search (needs, l .inv .1), search (needs, l .inv .2), search (needs, l .inv .3))
 
 finish-requires : tie.Need-finish-requires Inv-loop μ-loop
 finish-requires c κs =
@@ -80,7 +82,7 @@ strip-on-spec =
     μ-loop
     next-point-requires
     loop-holds
-    pass-kept-requires
+    strip-one-requires
     next-point-requires-2
     loop-less
     loop-again
