@@ -41,7 +41,7 @@ pub struct Ends {
 }
 
 // What of a stroke is round, and how deep its arcs go.
-fn round_of(o: Stroke) -> Round
+pub fn round_of(o: Stroke) -> Round
     ensures { λ r. ⌜ r ≡ roundOf o ⌝ }
 {
     let j = o.line_join;

@@ -3,7 +3,7 @@
 use Prim.Native.Nat.{ℕ, _+_, _-_, _*_, _≤_, _<_}
 use mathlib.Core.Path.{_≡_}
 use mathlib.Core.Bool.{Bool, false, cond}
-use mathlib.Core.List.{List, [], _++_, append-nil}
+use mathlib.Core.List.{List, [], _∷_, _++_}
 use native.Mathlib.Omega.{arith}
 use borrow.Rule.Slice.PartMut.{midOf, putMid}
 use lib.Dec.{eqb}
@@ -18,78 +18,95 @@ use Rattle.pieces.proofs.Pieces.{puts-none, puts-both, fits-front, fits-back, r
 use Rattle.options.specs.declared.Stroke.{Stroke}
 use Rattle.path.specs.Runs.{Run, runsFrom}
 use Rattle.path.specs.Verbs.{endClosed, names}
-use Rattle.run.specs.Run.{shapeOf, shapeVertices, shapeTriangles, shapePiece}
-use Rattle.runs.specs.Runs.{drawnOf, meshVertices, meshTriangles, meshPiece}
+use Rattle.cuts.specs.Runs.{cutRuns}
+use Rattle.cuts.proofs.Runs.{cut-append, few-between}
+use Rattle.runs.specs.Runs.{cutOf, Few, meshVertices, meshTriangles, meshPiece}
 use Rattle.runs.specs.Cursor.{undrawn, startOf, movedOf, currentOf, endedOf}
 use Rattle.runs.specs.Passes.{Paired, Inside}
 use Rattle.runs.specs.declared.cursor.Cursor.{Cursor}
 use Rattle.runs.proofs.Passing.{Passing, moved-place, pass-none, pass-split, pass-turn, pass-all, pass-inside}
 use Rattle.runs.proofs.Runs.{meshes-append}
 
--- ---- runs one behind the other
-module _ (o : Stroke) {write : Bool} {k : Place} {l : Lists} where
-  pub runs-none : Passes write k (meshPiece o k []) l l k
-  unfolding meshVertices meshTriangles
-  runs-none = puts-none
+-- ---- runs one behind the other, as they are drawn
+module _ (o : Stroke) (ds : List Float) where
+  abbrev pub pieceOf : Place → List (Run Endpoint) → Piece
+  pieceOf k rs = meshPiece o k (cutOf o ds rs)
 
-  runs-front : (xs ys : List (Run Endpoint)) → Fits write k (meshPiece o k (xs ++ ys)) l → Fits write k (meshPiece o k xs) l
-  runs-front xs ys h = fits-front (meshPiece o k xs) (meshPiece o (behind k (meshPiece o k xs)) ys) (rw (meshes-append o k xs ys) at h)
+  pieces-append : (k : Place) (xs ys : List (Run Endpoint)) → pieceOf k (xs ++ ys) ≡ joined (pieceOf k xs) (pieceOf (behind k (pieceOf k xs)) ys)
+  pieces-append k xs ys = rw (cut-append (o .near) ds (o .offset) xs ys) (meshes-append o k (cutOf o ds xs) (cutOf o ds ys))
 
-  module _ (xs ys : List (Run Endpoint)) {l1 : Lists} {k1 : Place} (e : Passes write k (meshPiece o k xs) l l1 k1) where
-    split : meshPiece o k (xs ++ ys) ≡ joined (meshPiece o k xs) (meshPiece o k1 ys)
-    split = rw (e .place) (meshes-append o k xs ys)
+  module _ {write : Bool} {k : Place} {l : Lists} where
+    pub runs-none : Passes write k (pieceOf k []) l l k
+    unfolding cutRuns meshVertices meshTriangles
+    runs-none = puts-none
 
-    runs-back : Fits write k (meshPiece o k (xs ++ ys)) l → Fits write k1 (meshPiece o k1 ys) l1
-    runs-back h = fits-back (meshPiece o k xs) (meshPiece o k1 ys) (rw split at h) e
+    runs-front : (xs ys : List (Run Endpoint)) → Fits write k (pieceOf k (xs ++ ys)) l → Fits write k (pieceOf k xs) l
+    runs-front xs ys h = fits-front (pieceOf k xs) (pieceOf (behind k (pieceOf k xs)) ys) (rw (pieces-append k xs ys) at h)
 
-    pub runs-both : {l2 : Lists} {k2 : Place} → Passes write k1 (meshPiece o k1 ys) l1 l2 k2 → Passes write k (meshPiece o k (xs ++ ys)) l l2 k2
-    runs-both f = rw split (puts-both e f)
+    module _ (xs ys : List (Run Endpoint)) {l1 : Lists} {k1 : Place} (e : Passes write k (pieceOf k xs) l l1 k1) where
+      split : pieceOf k (xs ++ ys) ≡ joined (pieceOf k xs) (pieceOf k1 ys)
+      split = rw (e .place) (pieces-append k xs ys)
+
+      runs-back : Fits write k (pieceOf k (xs ++ ys)) l → Fits write k1 (pieceOf k1 ys) l1
+      runs-back h = fits-back (pieceOf k xs) (pieceOf k1 ys) (rw split at h) e
+
+      pub runs-both : {l2 : Lists} {k2 : Place} → Passes write k1 (pieceOf k1 ys) l1 l2 k2 → Passes write k (pieceOf k (xs ++ ys)) l l2 k2
+      runs-both f = rw split (puts-both e f)
 
 -- ---- a verb: one that names no point ends the current run
-module _ (o : Stroke) (g : Cursor) (verb : ℕ) (ps : List Endpoint) where
+module _ (o : Stroke) (ds : List Float) (g : Cursor) (verb : ℕ) (ps : List Endpoint) where
   abbrev run : Piece
-  run = let r = currentOf g verb ps in shapePiece o (r .closed) (record { 0 = nextVertex (g .place) }) (drawnOf o r)
+  run = pieceOf o ds (g .place) (currentOf g verb ps ∷ [])
 
-  one-is : names verb ≡ false → meshPiece o (g .place) (endedOf g verb ps) ≡ run
-  unfolding endedOf meshVertices meshTriangles
-  one-is n =
-      let r = currentOf g verb ps in
-      rw (n, append-nil (shapeVertices o (drawnOf o r)), append-nil (shapeTriangles (r .closed) (nextVertex (g .place)) (drawnOf o r)))
+  one-is : names verb ≡ false → pieceOf o ds (g .place) (endedOf g verb ps) ≡ run
+  unfolding endedOf
+  one-is n = rw n
 
   -- it is drawn in the parts that begin at a, b and c, whose first vertex has the number `vertex`, from its points qs
   module _ {write : Bool} {v : List Float} {s t : List ℕ} {a b c : ℕ} {vertex : VertexId} {qs : List Endpoint} (n : names verb ≡ false) (ea : a ≡ cond write (5 * g .place .vertices) 0)
       (eb : b ≡ cond write (g .place .vertices) 0) (ec : c ≡ cond write (3 * g .place .triangles) 0) (ev : vertex ≡ record { 0 = nextVertex (g .place) }) (eq : qs ≡ currentOf g verb ps .points)
-      (h : Fits write (g .place) (meshPiece o (g .place) (endedOf g verb ps)) (lent v s t)) where
+      (h : Fits write (g .place) (pieceOf o ds (g .place) (endedOf g verb ps)) (lent v s t)) where
     run-fits : Fits write (g .place) run (lent v s t)
     run-fits = rw (one-is n) at h
 
     abbrev parts : Lists
     parts = lent (midOf a (length v - a) v) (midOf b (length s - b) s) (midOf c (length t - c) t)
 
-    pub part-fits : Fits write (from vertex) (shapePiece o (eqb verb endClosed) vertex (shapeOf o (eqb verb endClosed) qs)) parts
-    part-fits = rw (ea, eb, ec, ev, eq) (parts-fit (g .place) run v s t write run-fits)
+    abbrev part : Piece
+    part = pieceOf o ds (from vertex) (record { closed = eqb verb endClosed; points = qs } ∷ [])
 
-    module _ {v' : List Float} {s' t' : List ℕ} {r : Place} (e : Passes write (from vertex) (shapePiece o (eqb verb endClosed) vertex (shapeOf o (eqb verb endClosed) qs)) parts (lent v' s' t') r) where
+    part-is : part ≡ run
+    part-is = let m : nextVertex (g .place) + 0 ≡ nextVertex (g .place) = omega arith in rw (ev, eq, m)
+
+    pub part-fits : Fits write (from vertex) part parts
+    part-fits = rw (part-is, ea, eb, ec, ev) (parts-fit (g .place) run v s t write run-fits)
+
+    module _ {v' : List Float} {s' t' : List ℕ} {r : Place} (e : Passes write (from vertex) part parts (lent v' s' t') r) where
       drawn : Passes write (anew (g .place)) run parts (lent v' s' t') r
-      drawn = rw (ev, eq) at e
+      drawn = rw (part-is, ev) at e
 
       pub part-few : (nextVertex (g .place) + r .vertices < idLimit) × (g .place .triangles + r .triangles < idLimit)
       part-few = rw (drawn .place) (omega (arith, run-fits .numbers), omega (arith, run-fits .faces))
 
-      pub part-puts : Passes write (g .place) (meshPiece o (g .place) (endedOf g verb ps)) (lent v s t) (lent (putMid a (length v - a) v v') (putMid b (length s - b) s s') (putMid c (length t - c) t t'))
+      pub part-puts : Passes write (g .place) (pieceOf o ds (g .place) (endedOf g verb ps)) (lent v s t) (lent (putMid a (length v - a) v v') (putMid b (length s - b) s s') (putMid c (length t - c) t t'))
           (reached (g .place) run v s t r)
       part-puts = rw (one-is n, ea, eb, ec) (parts-put (g .place) run v s t write run-fits v' s' t' r (rw (ea, eb, ec) at drawn))
 
+  -- no more cuts than of the verb's runs
+  pub part-cuts : {qs : List Endpoint} → names verb ≡ false → qs ≡ currentOf g verb ps .points → Few o ds (endedOf g verb ps) → Few o ds (record { closed = eqb verb endClosed; points = qs } ∷ [])
+  unfolding endedOf
+  part-cuts n eq f = rw eq (rw n at f)
+
 -- ---- the pass
-pub record Going (write : Bool) (o : Stroke) (vs : List ℕ) (ps : List Endpoint) (l0 : Lists) (i : ℕ) (g : Cursor) (l : Lists) : Type 0 where
+pub record Going (write : Bool) (o : Stroke) (ds : List Float) (vs : List ℕ) (ps : List Endpoint) (l0 : Lists) (i : ℕ) (g : Cursor) (l : Lists) : Type 0 where
   pub done : List (Run Endpoint)
   pub passing : Passing vs ps i g done
-  pub puts : Passes write undrawn (meshPiece o undrawn done) l0 l (g .place)
+  pub puts : Passes write undrawn (pieceOf o ds undrawn done) l0 l (g .place)
 
-pub going-none : (write : Bool) (o : Stroke) (vs : List ℕ) (ps : List Endpoint) (l : Lists) → Going write o vs ps l 0 startOf l
-going-none write o vs ps l = record { done = []; passing = pass-none vs ps; puts = runs-none o }
+pub going-none : (write : Bool) (o : Stroke) (ds : List Float) (vs : List ℕ) (ps : List Endpoint) (l : Lists) → Going write o ds vs ps l 0 startOf l
+going-none write o ds vs ps l = record { done = []; passing = pass-none vs ps; puts = runs-none o ds }
 
-module _ {write : Bool} {o : Stroke} {vs : List ℕ} {ps : List Endpoint} {l0 : Lists} {i : ℕ} {g : Cursor} {l : Lists} (m : Going write o vs ps l0 i g l) where
+module _ {write : Bool} {o : Stroke} {ds : List Float} {vs : List ℕ} {ps : List Endpoint} {l0 : Lists} {i : ℕ} {g : Cursor} {l : Lists} (m : Going write o ds vs ps l0 i g l) where
   pub going-inside : (cs : List Float) → Paired vs cs → Inside g cs
   going-inside cs q = pass-inside vs ps i g (m .done) (m .passing) cs q
 
@@ -100,17 +117,21 @@ module _ {write : Bool} {o : Stroke} {vs : List ℕ} {ps : List Endpoint} {l0 : 
     rest : List (Run Endpoint)
     rest = let n = movedOf g (getD vs i 0) undrawn in runsFrom (n .size) (drop (i + 1) vs) (drop (n .first .0) ps)
 
-    pub going-fits : Fits write undrawn (meshPiece o undrawn (runsFrom 0 vs ps)) l0 → Fits write (g .place) (meshPiece o (g .place) (endedOf g (getD vs i 0) ps)) l
+    pub going-few : Few o ds (runsFrom 0 vs ps) → Few o ds (endedOf g (getD vs i 0) ps)
     unfolding xs rest
-    going-fits f = runs-front o xs rest (runs-back o (m .done) (xs ++ rest) (m .puts) (rw (pass-split vs ps i g (m .done) (m .passing) undrawn h) at f))
+    going-few f = few-between (o .near) ds (o .offset) (m .done) xs rest (rw (pass-split vs ps i g (m .done) (m .passing) undrawn h) at f)
 
-    pub going-turn : {k : Place} {l1 : Lists} → Passes write (g .place) (meshPiece o (g .place) (endedOf g (getD vs i 0) ps)) l l1 k → Going write o vs ps l0 (i + 1) (movedOf g (getD vs i 0) k) l1
+    pub going-fits : Fits write undrawn (pieceOf o ds undrawn (runsFrom 0 vs ps)) l0 → Fits write (g .place) (pieceOf o ds (g .place) (endedOf g (getD vs i 0) ps)) l
+    unfolding xs rest
+    going-fits f = runs-front o ds xs rest (runs-back o ds (m .done) (xs ++ rest) (m .puts) (rw (pass-split vs ps i g (m .done) (m .passing) undrawn h) at f))
+
+    pub going-turn : {k : Place} {l1 : Lists} → Passes write (g .place) (pieceOf o ds (g .place) (endedOf g (getD vs i 0) ps)) l l1 k → Going write o ds vs ps l0 (i + 1) (movedOf g (getD vs i 0) k) l1
     unfolding xs
     going-turn {k} e = record {
       done = m .done ++ xs;
       passing = pass-turn vs ps i g (m .done) (m .passing) k h;
-      puts = rw (moved-place g (getD vs i 0) k ps) (runs-both o (m .done) xs (m .puts) e);
+      puts = rw (moved-place g (getD vs i 0) k ps) (runs-both o ds (m .done) xs (m .puts) e);
     }
 
-  pub going-all : length vs ≤ i → Passes write undrawn (meshPiece o undrawn (runsFrom 0 vs ps)) l0 l (g .place)
+  pub going-all : length vs ≤ i → Passes write undrawn (pieceOf o ds undrawn (runsFrom 0 vs ps)) l0 l (g .place)
   going-all h = rw (pass-all vs ps i g (m .done) (m .passing) h) at (m .puts)

@@ -1,4 +1,4 @@
--- All runs of a path, one after another: their vertices, triangles and counts. Assumes nothing.
+-- All runs of a path, one after another: their vertices, triangles and counts. "Demands 2 and 3 read of the cut runs" (W-213): they are runs like any other. Assumes nothing.
 use Prim.Native.Nat.{ℕ, _+_}
 use mathlib.Core.List.{List, [], _∷_, _++_}
 use lib.Ieee.{Float}
@@ -7,6 +7,7 @@ use Rattle.endpoint.specs.declared.Endpoint.{Endpoint}
 use Rattle.options.specs.declared.Stroke.{Stroke}
 use Rattle.path.specs.Runs.{Run, runsFrom}
 use Rattle.kept.specs.Points.{endpointsOf}
+use Rattle.cuts.specs.Runs.{cutRuns, FewCuts}
 use Rattle.triangles.specs.Tri.{Tri}
 use Rattle.pieces.specs.Piece.{Vertex, Piece, nextVertex}
 use Rattle.pieces.specs.declared.Place.{Place}
@@ -15,6 +16,17 @@ use Rattle.run.specs.Run.{Shape, shapeOf, shapeCount, shapeVertices, shapeTrian
 -- "A path is a list of verb bytes .. and a list of coordinates, two to each begin or line."
 abbrev pub runsOf : List ℕ → List Float → List (Run Endpoint)
 runsOf verbs coords = runsFrom 0 verbs (endpointsOf 0 coords)
+
+-- W-213: the runs that are drawn, cut by the lengths ds; themselves where there are none
+abbrev pub cutOf : Stroke → List Float → List (Run Endpoint) → List (Run Endpoint)
+cutOf o ds rs = cutRuns (o .near) ds (o .offset) rs
+
+abbrev pub Few : Stroke → List Float → List (Run Endpoint) → Type 0
+Few o ds rs = FewCuts (o .near) ds (o .offset) rs
+
+-- of a path
+abbrev pub pathRuns : Stroke → List Float → List ℕ → List Float → List (Run Endpoint)
+pathRuns o ds verbs coords = cutOf o ds (runsOf verbs coords)
 
 -- rules 1 and 2: what a run draws
 abbrev pub drawnOf : Stroke → Run Endpoint → Shape

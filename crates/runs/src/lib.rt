@@ -1,25 +1,27 @@
-// A pass over the runs of a path: each end verb ends a run, which is counted and, where the pass writes, drawn.
+// A pass over the runs of a path: each end verb ends a run, which is counted and, where the pass writes, drawn. ds holds the lengths of its dashes.
 mod cursor;
+mod cut;
 pub mod part;
 
 use crate::cursor::Cursor;
 use crate::cursor::moved;
 use crate::cursor::start;
+use crate::cut::draw_cut;
 use along::At;
 use along::Pass;
+use options::Stroke;
 use path::verbs::END_CLOSED;
 use path::verbs::names_point;
 use pieces::Index;
 use pieces::Place;
 use pieces::next_vertex;
-use run::draw_run;
 use woven::place_of;
 ghost use mathlib.Core.Bool.{false};
 ghost use mathlib.Core.Path.{_≡_};
 ghost use Rattle.path.specs.Verbs.{names};
 ghost use Rattle.pieces.specs.Piece.{lent, Fits, Passes};
 ghost use Rattle.kept.specs.Points.{endpointsOf};
-ghost use Rattle.runs.specs.Runs.{runsOf, meshPiece};
+ghost use Rattle.runs.specs.Runs.{runsOf, cutOf, Few, pathRuns, meshPiece};
 ghost use Rattle.runs.specs.Cursor.{undrawn, endedOf};
 ghost use Rattle.runs.specs.Passes.{Paired, Inside};
 
@@ -29,29 +31,33 @@ fn draw_ended(
     v: &mut [f32],
     src: &mut [u32],
     t: &mut [Index],
-    pass: Pass,
+    stroke: Stroke,
+    write: bool,
     coords: &[f32],
+    ds: &[f32],
     g: Cursor,
     verb: u8,
 ) -> Place
     requires { ⌜ Inside g (now coords) ⌝ }
-    requires { ⌜ Fits (pass .write) (g .place) (meshPiece (pass .stroke) (g .place) (endedOf g verb (endpointsOf 0 (now coords)))) (lent (now v) (now src) (now t)) ⌝ }
+    requires { ⌜ Few stroke (now ds) (endedOf g verb (endpointsOf 0 (now coords))) ⌝ }
+    requires { ⌜ Fits write (g .place) (meshPiece stroke (g .place) (cutOf stroke (now ds) (endedOf g verb (endpointsOf 0 (now coords))))) (lent (now v) (now src) (now t)) ⌝ }
     requires { ⌜ names verb ≡ false ⌝ }
-    ensures { λ r. ⌜ Passes (pass .write) (g .place) (meshPiece (pass .stroke) (g .place) (endedOf g verb (endpointsOf 0 (now (coords .entry))))) (lent (now (v .entry)) (now (src .entry)) (now (t .entry))) (lent (now (v .exit)) (now (src .exit)) (now (t .exit))) r ⌝ }
+    ensures { λ r. ⌜ Passes write (g .place) (meshPiece stroke (g .place) (cutOf stroke (now (ds .entry)) (endedOf g verb (endpointsOf 0 (now (coords .entry)))))) (lent (now (v .entry)) (now (src .entry)) (now (t .entry))) (lent (now (v .exit)) (now (src .exit)) (now (t .exit))) r ⌝ }
 {
     let place = g.place;
     let first = g.first;
     let i = first.0 as usize;
     let from = 2 * i;
     let to = 2 * (i + g.size);
-    let a = place_of(pass.write, 5 * place.vertices);
-    let b = place_of(pass.write, place.vertices);
-    let c = place_of(pass.write, 3 * place.triangles);
+    let pass = Pass { stroke, write };
+    let a = place_of(write, 5 * place.vertices);
+    let b = place_of(write, place.vertices);
+    let c = place_of(write, 3 * place.triangles);
     let at = At {
         endpoint: first,
         vertex: next_vertex(place),
     };
-    let run = draw_run(
+    let run = draw_cut(
         &mut v[a..],
         &mut src[b..],
         &mut t[c..],
@@ -59,12 +65,15 @@ fn draw_ended(
         &coords[from..to],
         at,
         verb == END_CLOSED,
+        ds,
     );
     let base = place.base;
+    let vertices = place.vertices + run.vertices;
+    let triangles = place.triangles + run.triangles;
     Place {
         base,
-        vertices: place.vertices + run.vertices,
-        triangles: place.triangles + run.triangles,
+        vertices,
+        triangles,
     }
 }
 
@@ -75,19 +84,21 @@ fn draw_verb(
     t: &mut [Index],
     pass: Pass,
     coords: &[f32],
+    ds: &[f32],
     g: Cursor,
     verb: u8,
 ) -> Place
     requires { ⌜ Inside g (now coords) ⌝ }
-    requires { ⌜ Fits (pass .write) (g .place) (meshPiece (pass .stroke) (g .place) (endedOf g verb (endpointsOf 0 (now coords)))) (lent (now v) (now src) (now t)) ⌝ }
-    ensures { λ r. ⌜ Passes (pass .write) (g .place) (meshPiece (pass .stroke) (g .place) (endedOf g verb (endpointsOf 0 (now (coords .entry))))) (lent (now (v .entry)) (now (src .entry)) (now (t .entry))) (lent (now (v .exit)) (now (src .exit)) (now (t .exit))) r ⌝ }
+    requires { ⌜ Few (pass .stroke) (now ds) (endedOf g verb (endpointsOf 0 (now coords))) ⌝ }
+    requires { ⌜ Fits (pass .write) (g .place) (meshPiece (pass .stroke) (g .place) (cutOf (pass .stroke) (now ds) (endedOf g verb (endpointsOf 0 (now coords))))) (lent (now v) (now src) (now t)) ⌝ }
+    ensures { λ r. ⌜ Passes (pass .write) (g .place) (meshPiece (pass .stroke) (g .place) (cutOf (pass .stroke) (now (ds .entry)) (endedOf g verb (endpointsOf 0 (now (coords .entry)))))) (lent (now (v .entry)) (now (src .entry)) (now (t .entry))) (lent (now (v .exit)) (now (src .exit)) (now (t .exit))) r ⌝ }
 {
     if names_point(verb) {
         return g.place;
     }
     // A copy, so that the pass keeps its own cursor in registers.
     let ended = g;
-    draw_ended(v, src, t, pass, coords, ended, verb)
+    draw_ended(v, src, t, pass.stroke, pass.write, coords, ds, ended, verb)
 }
 
 pub fn draw_runs(
@@ -97,16 +108,18 @@ pub fn draw_runs(
     pass: Pass,
     verbs: &[u8],
     coords: &[f32],
+    ds: &[f32],
 ) -> Place
     requires { ⌜ Paired (now verbs) (now coords) ⌝ }
-    requires { ⌜ Fits (pass .write) undrawn (meshPiece (pass .stroke) undrawn (runsOf (now verbs) (now coords))) (lent (now v) (now src) (now t)) ⌝ }
-    ensures { λ r. ⌜ Passes (pass .write) undrawn (meshPiece (pass .stroke) undrawn (runsOf (now (verbs .entry)) (now (coords .entry)))) (lent (now (v .entry)) (now (src .entry)) (now (t .entry))) (lent (now (v .exit)) (now (src .exit)) (now (t .exit))) r ⌝ }
+    requires { ⌜ Few (pass .stroke) (now ds) (runsOf (now verbs) (now coords)) ⌝ }
+    requires { ⌜ Fits (pass .write) undrawn (meshPiece (pass .stroke) undrawn (pathRuns (pass .stroke) (now ds) (now verbs) (now coords))) (lent (now v) (now src) (now t)) ⌝ }
+    ensures { λ r. ⌜ Passes (pass .write) undrawn (meshPiece (pass .stroke) undrawn (pathRuns (pass .stroke) (now (ds .entry)) (now (verbs .entry)) (now (coords .entry)))) (lent (now (v .entry)) (now (src .entry)) (now (t .entry))) (lent (now (v .exit)) (now (src .exit)) (now (t .exit))) r ⌝ }
 {
     let mut g = start();
     let mut i: usize = 0;
     while i < verbs.len() {
         let verb = verbs[i];
-        let place = draw_verb(v, src, t, pass, coords, g, verb);
+        let place = draw_verb(v, src, t, pass, coords, ds, g, verb);
         g = moved(g, verb, place);
         i += 1;
     }

@@ -3,7 +3,6 @@ use crate::cursor::Cursor;
 use crate::cursor::moved;
 use crate::cursor::start;
 use crate::draw_ended;
-use along::Pass;
 use options::Stroke;
 use path::verbs::names_point;
 use pieces::Index;
@@ -19,7 +18,7 @@ ghost use Rattle.pieces.specs.Piece.{lent, Fits, Passes};
 ghost use Rattle.runs.specs.Cursor.{undrawn, endedOf};
 ghost use Rattle.runs.specs.Part.{notedOf, toldOf};
 ghost use Rattle.runs.specs.Passes.{Paired, Inside};
-ghost use Rattle.runs.specs.Runs.{runsOf, meshPiece};
+ghost use Rattle.runs.specs.Runs.{runsOf, cutOf, Few, pathRuns, meshPiece};
 
 // How many runs have ended, and the vertices before the run that is asked for and up to its end, as far as they are drawn.
 pub struct Seen {
@@ -71,21 +70,19 @@ fn count_verb(
     t: &mut [Index],
     stroke: Stroke,
     coords: &[f32],
+    ds: &[f32],
     g: Cursor,
     verb: u8,
 ) -> Place
     requires { ⌜ Inside g (now coords) ⌝ }
-    requires { ⌜ Fits false (g .place) (meshPiece stroke (g .place) (endedOf g verb (endpointsOf 0 (now coords)))) (lent (now v) (now src) (now t)) ⌝ }
-    ensures { λ r. ⌜ Passes false (g .place) (meshPiece stroke (g .place) (endedOf g verb (endpointsOf 0 (now (coords .entry))))) (lent (now (v .entry)) (now (src .entry)) (now (t .entry))) (lent (now (v .exit)) (now (src .exit)) (now (t .exit))) r ⌝ }
+    requires { ⌜ Few stroke (now ds) (endedOf g verb (endpointsOf 0 (now coords))) ⌝ }
+    requires { ⌜ Fits false (g .place) (meshPiece stroke (g .place) (cutOf stroke (now ds) (endedOf g verb (endpointsOf 0 (now coords))))) (lent (now v) (now src) (now t)) ⌝ }
+    ensures { λ r. ⌜ Passes false (g .place) (meshPiece stroke (g .place) (cutOf stroke (now (ds .entry)) (endedOf g verb (endpointsOf 0 (now (coords .entry)))))) (lent (now (v .entry)) (now (src .entry)) (now (t .entry))) (lent (now (v .exit)) (now (src .exit)) (now (t .exit))) r ⌝ }
 {
     if names_point(verb) {
         return g.place;
     }
-    let count = Pass {
-        stroke,
-        write: false,
-    };
-    draw_ended(v, src, t, count, coords, g, verb)
+    draw_ended(v, src, t, stroke, false, coords, ds, g, verb)
 }
 
 fn count_seen(
@@ -95,12 +92,14 @@ fn count_seen(
     stroke: Stroke,
     verbs: &[u8],
     coords: &[f32],
+    ds: &[f32],
     run: usize,
 ) -> Told
     requires { ⌜ Paired (now verbs) (now coords) ⌝ }
     requires { ⌜ length (now verbs) < idLimit ⌝ }
-    requires { ⌜ Fits false undrawn (meshPiece stroke undrawn (runsOf (now verbs) (now coords))) (lent (now v) (now src) (now t)) ⌝ }
-    ensures { λ r. ⌜ r ≡ toldOf stroke run (runsOf (now (verbs .entry)) (now (coords .entry))) ⌝ }
+    requires { ⌜ Few stroke (now ds) (runsOf (now verbs) (now coords)) ⌝ }
+    requires { ⌜ Fits false undrawn (meshPiece stroke undrawn (pathRuns stroke (now ds) (now verbs) (now coords))) (lent (now v) (now src) (now t)) ⌝ }
+    ensures { λ r. ⌜ r ≡ toldOf stroke (now (ds .entry)) run (runsOf (now (verbs .entry)) (now (coords .entry))) ⌝ }
 {
     let mut g = start();
     let mut s = Seen {
@@ -111,7 +110,7 @@ fn count_seen(
     let mut i: usize = 0;
     while i < verbs.len() {
         let verb = verbs[i];
-        let place = count_verb(v, src, t, stroke, coords, g, verb);
+        let place = count_verb(v, src, t, stroke, coords, ds, g, verb);
         s = noted(s, run, verb, place.vertices);
         g = moved(g, verb, place);
         i += 1;
@@ -121,14 +120,15 @@ fn count_seen(
 }
 
 // What all runs need, and where the vertices of the run of that number stand among theirs.
-pub fn count_run(verbs: &[u8], coords: &[f32], stroke: Stroke, run: usize) -> Told
+pub fn count_run(verbs: &[u8], coords: &[f32], stroke: Stroke, ds: &[f32], run: usize) -> Told
     requires { ⌜ Paired (now verbs) (now coords) ⌝ }
     requires { ⌜ length (now verbs) < idLimit ⌝ }
-    requires { ⌜ Fits false undrawn (meshPiece stroke undrawn (runsOf (now verbs) (now coords))) (lent [] [] []) ⌝ }
-    ensures { λ r. ⌜ r ≡ toldOf stroke run (runsOf (now (verbs .entry)) (now (coords .entry))) ⌝ }
+    requires { ⌜ Few stroke (now ds) (runsOf (now verbs) (now coords)) ⌝ }
+    requires { ⌜ Fits false undrawn (meshPiece stroke undrawn (pathRuns stroke (now ds) (now verbs) (now coords))) (lent [] [] []) ⌝ }
+    ensures { λ r. ⌜ r ≡ toldOf stroke (now (ds .entry)) run (runsOf (now (verbs .entry)) (now (coords .entry))) ⌝ }
 {
     let mut v = [0.0f32; 0];
     let mut src = [0u32; 0];
     let mut t: [Index; 0] = [0; 0];
-    count_seen(&mut v, &mut src, &mut t, stroke, verbs, coords, run)
+    count_seen(&mut v, &mut src, &mut t, stroke, verbs, coords, ds, run)
 }

@@ -7,46 +7,47 @@ use native.Mathlib.Omega.{arith}
 use lib.ListN.{length}
 use Rattle.pieces.specs.Piece.{lent}
 use Rattle.kept.specs.Points.{endpointsOf}
-use Rattle.runs.proofs.Drawing.{going-inside, going-fits}
+use Rattle.runs.proofs.Drawing.{going-inside, going-few, going-fits}
 use Rattle.runs.proofs.Seeing.{Seeing, seeing-none, going, ended-below, seeing-turn, seeing-all}
 use Rattle.runs.proofs.part.count_seen.Statement.{statement}
 use Rattle.runs.proofs.part.count_seen.Tie as tie
 
 abbrev Inv-loop : tie.InvT-loop
-Inv-loop v₀ src₀ t₀ stroke verbs coords run g₀ s₀ i₀ v src t g s i = Seeing stroke run verbs (endpointsOf 0 coords) (lent v₀ src₀ t₀) i g s (lent v src t) × (length v ≡ length v₀) × (length src ≡ length src₀) × (length t ≡ length t₀)
+Inv-loop v₀ src₀ t₀ stroke verbs coords ds run g₀ s₀ i₀ v src t g s i = Seeing stroke ds run verbs (endpointsOf 0 coords) (lent v₀ src₀ t₀) i g s (lent v src t) × (length v ≡ length v₀) × (length src ≡ length src₀) × (length t ≡ length t₀)
 
 abbrev μ-loop : tie.MeasureT-loop
-μ-loop v₀ src₀ t₀ stroke verbs coords run g₀ s₀ i₀ v src t g s i = length verbs - i
+μ-loop v₀ src₀ t₀ stroke verbs coords ds run g₀ s₀ i₀ v src t g s i = length verbs - i
 
 start-requires : tie.Need-start-requires Inv-loop μ-loop
 start-requires c κs = search needs
 
 loop-holds : tie.Need-loop-holds Inv-loop μ-loop
-loop-holds c = (rw (c .start .ensures) (seeing-none _ _ _ _ _), refl, refl, refl)
+loop-holds c = (rw (c .start .ensures) (seeing-none _ _ _ _ _ _), refl, refl, refl)
 
 shared-slice-read-verb : tie.Need-shared-slice-read-verb Inv-loop μ-loop
 shared-slice-read-verb c = search needs
 
 count-verb-requires : tie.Need-count-verb-requires Inv-loop μ-loop
 count-verb-requires c κs =
-    let s = c .before .before .before .before .before .before .before .before .before .before .before .before in
+    let s = c .before .before .before .before .before .before .before .before .before .before .before .before .before in
     let m = going (c .before .before .before .before .before .loop .inv .0) in
-    (going-inside m _ (s .pre .0), going-fits m (c .before .before .before .before .loop-test .taken) (s .pre .1 .1))
+    let taken = c .before .before .before .before .loop-test .taken in
+    (going-inside m _ (s .pre .0), (going-few m taken (s .pre .1 .1 .0), going-fits m taken (s .pre .1 .1 .1)))
 
 noted-requires : tie.Need-noted-requires Inv-loop μ-loop
 noted-requires c κs =
     let n = c .before .before .before .before .before .before .before .before .before .before in
-    omega (arith, ended-below (n .before .before .loop .inv .0), n .before .loop-test .taken, n .before .before .before .before .before .before .before .before .before .pre .1 .0)
+    omega (arith, ended-below (n .before .before .loop .inv .0), n .before .loop-test .taken, n .before .before .before .before .before .before .before .before .before .before .pre .1 .0)
 
 moved-requires : tie.Need-moved-requires Inv-loop μ-loop
 moved-requires c κs =
     let n = c .before .before .before .before .before .before .before .before .before .before .before in
-    omega (arith, going-inside (going (n .before .before .loop .inv .0)) _ (n .before .before .before .before .before .before .before .before .before .pre .0))
+    omega (arith, going-inside (going (n .before .before .loop .inv .0)) _ (n .before .before .before .before .before .before .before .before .before .before .pre .0))
 
 add-i : tie.Need-add-i Inv-loop μ-loop
 add-i c =
     let n = c .before .before .before .before .before .before .before .before .before .before .before .before in
-    omega (arith, n .before .loop-test .taken, n .before .before .before .before .before .before .before .before .before .pre .1 .0)
+    omega (arith, n .before .loop-test .taken, n .before .before .before .before .before .before .before .before .before .before .pre .1 .0)
 
 loop-less : tie.Need-loop-less Inv-loop μ-loop
 loop-less c = omega (arith, c .before .before .before .before .before .before .before .before .before .before .before .before .before .loop-test .taken)

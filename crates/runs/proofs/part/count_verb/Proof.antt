@@ -2,6 +2,7 @@
 use borrow.Author.Needs.{needs}
 use mathlib.Core.Path.{sym, _∙_}
 use Rattle.pieces.proofs.Pieces.{puts-none}
+use Rattle.cuts.specs.Runs.{cutRuns}
 use Rattle.runs.specs.Cursor.{endedOf}
 use Rattle.runs.specs.Runs.{meshVertices, meshTriangles}
 use Rattle.runs.proofs.part.count_verb.Statement.{statement}
@@ -11,13 +12,13 @@ names-point-requires : tie.Need-names-point-requires
 names-point-requires c κs = search needs
 
 returns : tie.Need-returns
-unfolding endedOf meshVertices meshTriangles
+unfolding endedOf cutRuns meshVertices meshTriangles
 returns c = rw (← c .before .before .names-point .ensures, c .before .if1 .taken) puts-none
 
 draw-ended-requires : tie.Need-draw-ended-requires
 draw-ended-requires c κs =
-    let s = c .before .before .before .before .before .before .before .before .before in
-    (s .pre .0, (s .pre .1, sym (c .before .before .before .before .names-point .ensures) ∙ c .before .before .before .if1 .left))
+    let s = c .before .before .before .before .before .before .before .before .before .before in
+    (s .pre .0, (s .pre .1 .0, (s .pre .1 .1, sym (c .before .before .before .before .names-point .ensures) ∙ c .before .before .before .if1 .left)))
 
 same-length : tie.Need-same-length
 same-length c = search needs
