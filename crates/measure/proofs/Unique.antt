@@ -5,9 +5,9 @@ use mathlib.Core.Bool.{cond}
 use mathlib.Core.List.{List}
 use lib.Dec.{eqb}
 use lib.Ieee.{Float}
-use Rattle.refusals.specs.Numbers.{numberOf, accepted, outOfRange, tooManyVerbs, misplacedVerb, vertexRoom, noRun}
+use Rattle.refusals.specs.Numbers.{numberOf, accepted, outOfRange, tooManyVerbs, misplacedVerb, vertexRoom, noRun, tooManyCuts}
 use Rattle.refusals.specs.declared.Refusal.{Refusal}
-use Rattle.refusals.specs.declared.Refusal.the-variants.{OutOfRange, TooManyVerbs, Verb, Coordinate}
+use Rattle.refusals.specs.declared.Refusal.the-variants.{OutOfRange, TooManyVerbs, Verb, Coordinate, TooManyCuts}
 use Rattle.options.specs.declared.Options.{Options}
 use Rattle.mesh.specs.declared.answer.MeshAnswer.{MeshAnswer}
 use Rattle.measure.specs.Answer.{measuredAnswerOf, partAnswerOf}
@@ -23,7 +23,7 @@ use Rattle.measure.specs.declared.answer.PartAnswer.{PartAnswer}
 refusalOf : ℕ → ℕ → Refusal
 refusalOf number place =
     cond (eqb number (numberOf outOfRange)) OutOfRange
-    (cond (eqb number (numberOf tooManyVerbs)) TooManyVerbs (cond (eqb number (numberOf misplacedVerb)) (Verb place) (Coordinate place)))
+    (cond (eqb number (numberOf tooManyVerbs)) TooManyVerbs (cond (eqb number (numberOf misplacedVerb)) (Verb place) (cond (eqb number (numberOf tooManyCuts)) TooManyCuts (Coordinate place))))
 
 measuredBack : MeshAnswer → Measured
 measuredBack a = cond (eqb (a .number) (numberOf accepted)) (measured.Counts (a .vertices) (a .triangles)) (measured.Refused (refusalOf (a .number) (a .place)))
@@ -35,6 +35,7 @@ measured-is (measured.Refused OutOfRange) = refl
 measured-is (measured.Refused TooManyVerbs) = refl
 measured-is (measured.Refused (Verb i)) = refl
 measured-is (measured.Refused (Coordinate i)) = refl
+measured-is (measured.Refused TooManyCuts) = refl
 
 foundBack : PartAnswer → Found
 foundBack a =
@@ -48,18 +49,19 @@ found-is (found.Refused OutOfRange) = refl
 found-is (found.Refused TooManyVerbs) = refl
 found-is (found.Refused (Verb i)) = refl
 found-is (found.Refused (Coordinate i)) = refl
+found-is (found.Refused TooManyCuts) = refl
 found-is found.VertexRoom = refl
 found-is found.NoRun = refl
 
 -- ---- the calls
-pub measure-one : (verbs : List ℕ) (coords : List Float) (options : Options) (r s : Measured)
-    → measuredAnswerOf r ≡ measureOf verbs coords options → measuredAnswerOf s ≡ measureOf verbs coords options → (measuredAnswerOf r ≡ measuredAnswerOf s) × (r ≡ s)
-measure-one verbs coords options r s h k = let e = h ∙ sym k in (e, sym (measured-is r) ∙ ap measuredBack e ∙ measured-is s)
+pub measure-one : (verbs : List ℕ) (coords : List Float) (options : Options) (ds : List Float) (r s : Measured)
+    → measuredAnswerOf r ≡ measureOf verbs coords options ds → measuredAnswerOf s ≡ measureOf verbs coords options ds → (measuredAnswerOf r ≡ measuredAnswerOf s) × (r ≡ s)
+measure-one verbs coords options ds r s h k = let e = h ∙ sym k in (e, sym (measured-is r) ∙ ap measuredBack e ∙ measured-is s)
 
-pub part-one : (verbs : List ℕ) (coords : List Float) (options : Options) (run floats : ℕ) (r s : Found)
-    → partAnswerOf r ≡ partOf verbs coords options run floats → partAnswerOf s ≡ partOf verbs coords options run floats → (partAnswerOf r ≡ partAnswerOf s) × (r ≡ s)
-part-one verbs coords options run floats r s h k = let e = h ∙ sym k in (e, sym (found-is r) ∙ ap foundBack e ∙ found-is s)
+pub part-one : (verbs : List ℕ) (coords : List Float) (options : Options) (ds : List Float) (run floats : ℕ) (r s : Found)
+    → partAnswerOf r ≡ partOf verbs coords options ds run floats → partAnswerOf s ≡ partOf verbs coords options ds run floats → (partAnswerOf r ≡ partAnswerOf s) × (r ≡ s)
+part-one verbs coords options ds run floats r s h k = let e = h ∙ sym k in (e, sym (found-is r) ∙ ap foundBack e ∙ found-is s)
 
-pub handed-one : (verbs : List ℕ) (coords : List Float) (options : Options) (run : ℕ) (v : List Float) (a b : Handed)
-    → a ≡ handedOf verbs coords options run v → b ≡ handedOf verbs coords options run v → a ≡ b
-handed-one verbs coords options run v a b h k = h ∙ sym k
+pub handed-one : (verbs : List ℕ) (coords : List Float) (options : Options) (ds : List Float) (run : ℕ) (v : List Float) (a b : Handed)
+    → a ≡ handedOf verbs coords options ds run v → b ≡ handedOf verbs coords options ds run v → a ≡ b
+handed-one verbs coords options ds run v a b h k = h ∙ sym k

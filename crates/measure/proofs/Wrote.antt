@@ -19,7 +19,8 @@ use Rattle.path.specs.Runs.{Run}
 use Rattle.pieces.specs.Piece.{Lists, flatV, floatsOf}
 use Rattle.pieces.proofs.Pieces.{length-flatV}
 use Rattle.runs.specs.Part.{runAt}
-use Rattle.runs.specs.Runs.{runsOf, meshVertices, meshCount, meshTriangles}
+use Rattle.cuts.proofs.Runs.{cut-append}
+use Rattle.runs.specs.Runs.{runsOf, cutOf, pathRuns, meshVertices, meshCount, meshTriangles}
 use Rattle.runs.proofs.Runs.{vertices-append, length-vertices}
 use Rattle.mesh.specs.Demand3.{EarnsNone}
 use Rattle.mesh.specs.Mesh.{outcomeOf}
@@ -37,16 +38,22 @@ empty : {A : Type 0} (b : List A) → length b ≡ 0 → [] ≡ b
 empty [] e = refl
 empty (x ∷ b) e = absurd (omega (arith, e))
 
--- ---- the floats of the runs
-module _ (o : Stroke) (k : ℕ) (rs : List (Run Endpoint)) where
+-- ---- the floats of the runs, each with all its dashes
+module _ (o : Stroke) (ds : List Float) (k : ℕ) (rs : List (Run Endpoint)) where
   abbrev floats : List (Run Endpoint) → List Float
-  floats xs = flatV (meshVertices o xs)
+  floats xs = flatV (meshVertices o (cutOf o ds xs))
 
-  floats-length : (xs : List (Run Endpoint)) → length (floats xs) ≡ 5 * meshCount o xs
-  floats-length xs = omega (arith, length-flatV (meshVertices o xs), length-vertices o xs)
+  abbrev count : List (Run Endpoint) → ℕ
+  count xs = meshCount o (cutOf o ds xs)
+
+  floats-length : (xs : List (Run Endpoint)) → length (floats xs) ≡ 5 * count xs
+  floats-length xs = omega (arith, length-flatV (meshVertices o (cutOf o ds xs)), length-vertices o (cutOf o ds xs))
 
   floats-append : (xs ys : List (Run Endpoint)) → floats (xs ++ ys) ≡ floats xs ++ floats ys
-  floats-append xs ys = rw (vertices-append o xs ys) (flat-append floatsOf (meshVertices o xs) (meshVertices o ys))
+  floats-append xs ys =
+      let ms = cutOf o ds xs in
+      let ns = cutOf o ds ys in
+      rw (cut-append (o .near) ds (o .offset) xs ys, vertices-append o ms ns) (flat-append floatsOf (meshVertices o ms) (meshVertices o ns))
 
   abbrev behind : List (Run Endpoint)
   behind = drop 1 (drop k rs)
@@ -57,41 +64,44 @@ module _ (o : Stroke) (k : ℕ) (rs : List (Run Endpoint)) where
       ∙ ap (λ (l : List Float). floats (take k rs) ++ l) (ap floats (sym (take-append-drop 1 (drop k rs))) ∙ floats-append (runAt k rs) behind)
 
   -- of a list that begins with the whole mesh
-  module _ (v : List Float) (w : take (5 * meshCount o rs) v ≡ floats rs) where
-    middle : take (5 * meshCount o (runAt k rs)) (drop (5 * meshCount o (take k rs)) v) ≡ floats (runAt k rs)
+  module _ (v : List Float) (w : take (5 * count rs) v ≡ floats rs) where
+    middle : take (5 * count (runAt k rs)) (drop (5 * count (take k rs)) v) ≡ floats (runAt k rs)
     middle =
-        let e : v ≡ (floats (take k rs) ++ (floats (runAt k rs) ++ floats behind)) ++ drop (5 * meshCount o rs) v =
-        sym (take-append-drop (5 * meshCount o rs) v) ∙ ap (λ (l : List Float). l ++ drop (5 * meshCount o rs) v) (w ∙ floats-are) in
-        ap (λ (l : List Float). take (5 * meshCount o (runAt k rs)) (drop (5 * meshCount o (take k rs)) l)) e
-        ∙ rw (← floats-length (runAt k rs), ← floats-length (take k rs)) (part-of (floats (take k rs)) (floats (runAt k rs)) (floats behind) (drop (5 * meshCount o rs) v))
+        let e : v ≡ (floats (take k rs) ++ (floats (runAt k rs) ++ floats behind)) ++ drop (5 * count rs) v =
+        sym (take-append-drop (5 * count rs) v) ∙ ap (λ (l : List Float). l ++ drop (5 * count rs) v) (w ∙ floats-are) in
+        ap (λ (l : List Float). take (5 * count (runAt k rs)) (drop (5 * count (take k rs)) l)) e
+        ∙ rw (← floats-length (runAt k rs), ← floats-length (take k rs)) (part-of (floats (take k rs)) (floats (runAt k rs)) (floats behind) (drop (5 * count rs) v))
 
     abbrev handed : PartAnswer → Handed
     handed a = record { number = a .number; place = a .place; part = take (a .length) (drop (a .start) v) }
 
-    at-part : handed (partAt (meshCount o (take k rs)) (meshCount o (runAt k rs))) ≡ record { number = numberOf accepted; place = 0; part = floats (runAt k rs) }
+    at-part : handed (partAt (count (take k rs)) (count (runAt k rs))) ≡ record { number = numberOf accepted; place = 0; part = floats (runAt k rs) }
     unfolding partAt
-    at-part = go (eqb (meshCount o (runAt k rs)) 0) refl
+    at-part = go (eqb (count (runAt k rs)) 0) refl
       where
-        go : (t : Bool) → eqb (meshCount o (runAt k rs)) 0 ≡ t
-            → handed (cond t (withPart 0 0) (withPart (5 * meshCount o (take k rs)) (5 * meshCount o (runAt k rs)))) ≡ record { number = numberOf accepted; place = 0; part = floats (runAt k rs) }
-        go true p = let z = eqb-true (meshCount o (runAt k rs)) 0 p in rw (← empty (floats (runAt k rs)) (omega (arith, floats-length (runAt k rs), z)))
+        go : (t : Bool) → eqb (count (runAt k rs)) 0 ≡ t
+            → handed (cond t (withPart 0 0) (withPart (5 * count (take k rs)) (5 * count (runAt k rs)))) ≡ record { number = numberOf accepted; place = 0; part = floats (runAt k rs) }
+        go true p = let z = eqb-true (count (runAt k rs)) 0 p in rw (← empty (floats (runAt k rs)) (omega (arith, floats-length (runAt k rs), z)))
         go false p = rw middle
 
 -- ---- the call, of what the mesh call wrote
-module _ (verbs : List ℕ) (coords : List Float) (options : Options) (o : Stroke) (e : EarnsNone verbs coords options o) (k : ℕ) where
+module _ (verbs : List ℕ) (coords : List Float) (options : Options) (ds : List Float) (o : Stroke) (e : EarnsNone verbs coords options ds o) (k : ℕ) where
   abbrev rs : List (Run Endpoint)
   rs = runsOf verbs coords
 
-  handed-is : (v : List Float) → 5 * meshCount o rs ≤ length v → take (5 * meshCount o rs) v ≡ flatV (meshVertices o rs) → k < length rs
-      → handedOf verbs coords options k v ≡ record { number = numberOf accepted; place = 0; part = flatV (meshVertices o (runAt k rs)) }
-  unfolding handedOf partOf strokedPartOf foundOf
-  handed-is v room w h = rw (e .within, e .accepted, le-ltb (length v / 5) (meshCount o rs) (omega (arith, room)), lt-ltb k (length rs) h) (at-part o k rs v w)
+  abbrev ms : List (Run Endpoint)
+  ms = pathRuns o ds verbs coords
 
-  pub is-wrote : (l : Lists) → 5 * meshCount o rs ≤ length (l .vertices) → meshCount o rs ≤ length (l .sources) → 3 * length (meshTriangles o 0 rs) ≤ length (l .triangles)
-      → Wrote verbs coords options o k (outcomeOf verbs coords options l .lists .vertices)
+  handed-is : (v : List Float) → 5 * meshCount o ms ≤ length v → take (5 * meshCount o ms) v ≡ flatV (meshVertices o ms) → k < length rs
+      → handedOf verbs coords options ds k v ≡ record { number = numberOf accepted; place = 0; part = flatV (meshVertices o (cutOf o ds (runAt k rs))) }
+  unfolding handedOf partOf strokedPartOf foundOf
+  handed-is v room w h = rw (e .within, e .accepted, le-ltb (length v / 5) (meshCount o ms) (omega (arith, room)), lt-ltb k (length rs) h) (at-part o ds k rs v w)
+
+  pub is-wrote : (l : Lists) → 5 * meshCount o ms ≤ length (l .vertices) → meshCount o ms ≤ length (l .sources) → 3 * length (meshTriangles o 0 ms) ≤ length (l .triangles)
+      → Wrote verbs coords options ds o k (outcomeOf verbs coords options ds l .lists .vertices)
   is-wrote l h i g =
-      let v = outcomeOf verbs coords options l .lists .vertices in
-      let w : take (5 * meshCount o rs) v ≡ flatV (meshVertices o rs) = demand-3 verbs coords options o e l .rooms .enough h i g .vertices in
-      let n : length (take (5 * meshCount o rs) v) ≡ 5 * meshCount o rs = ap (λ (x : List Float). length x) w ∙ floats-length o k rs rs in
-      let r : 5 * meshCount o rs ≤ length v = omega (arith, rw length-take at n) in
+      let v = outcomeOf verbs coords options ds l .lists .vertices in
+      let w : take (5 * meshCount o ms) v ≡ flatV (meshVertices o ms) = demand-3 verbs coords options ds o e l .rooms .enough h i g .vertices in
+      let n : length (take (5 * meshCount o ms) v) ≡ 5 * meshCount o ms = ap (λ (x : List Float). length x) w ∙ floats-length o ds k rs rs in
+      let r : 5 * meshCount o ms ≤ length v = omega (arith, rw length-take at n) in
       record { run = handed-is v r w }

@@ -10,7 +10,7 @@ use refusals::verdict_of;
 ghost use mathlib.Core.Path.{_≡_};
 ghost use Rattle.measure.specs.Answer.{measuredAnswerOf, withPart, withoutPart, partAnswerOf};
 
-// Both counts, vertices and triangles, or the first of refusals 1 to 4.
+// Both counts, vertices and triangles, or the first of refusals 1 to 4 and 26.
 pub enum Measured {
     Counts(usize, usize),
     Refused(Refusal),
@@ -20,7 +20,7 @@ pub enum Measured {
 pub enum Found {
     // Its start, and how many floats it has; both are 0 where the run drew nothing.
     Part(usize, usize),
-    // Refusals 1 to 4.
+    // Refusals 1 to 4, and 26.
     Refused(Refusal),
     // Refusal 6: the list is too short for the whole mesh.
     VertexRoom,

@@ -3,47 +3,47 @@ pub mod answer;
 pub mod part;
 
 use crate::answer::Measured;
+use cuts::check_cut_path;
 use mesh::count_accepted;
 use options::Options;
 use options::Stroke;
 use options::Stroked;
 use options::stroke_of;
 use path::Checked;
-use path::check_path;
 use pieces::Index;
 ghost use mathlib.Core.Path.{_≡_};
 ghost use Rattle.path.specs.Path.{Sound};
-ghost use Rattle.runs.specs.Runs.{runsOf};
+ghost use Rattle.runs.specs.Runs.{runsOf, Few, pathRuns};
 ghost use Rattle.measure.specs.Answer.{measuredAnswerOf};
 ghost use Rattle.measure.specs.Measure.{countsOf, measuredOf, measureOf};
 
 // The mesh call's own count, of lists that have no places.
-fn measure_accepted(verbs: &[u8], coords: &[f32], stroke: Stroke) -> Measured
-    requires { ⌜ Sound (now verbs) (now coords) ⌝ }
-    ensures { λ r. ⌜ measuredAnswerOf r ≡ countsOf stroke (runsOf (now (verbs .entry)) (now (coords .entry))) ⌝ }
+fn measure_accepted(verbs: &[u8], coords: &[f32], stroke: Stroke, lengths: &[f32]) -> Measured
+    requires { ⌜ Sound (now verbs) (now coords) × Few stroke (now lengths) (runsOf (now verbs) (now coords)) ⌝ }
+    ensures { λ r. ⌜ measuredAnswerOf r ≡ countsOf stroke (pathRuns stroke (now (lengths .entry)) (now (verbs .entry)) (now (coords .entry))) ⌝ }
 {
     let mut v = [0.0f32; 0];
     let mut src = [0u32; 0];
     let mut t: [Index; 0] = [0; 0];
-    let c = count_accepted(verbs, coords, stroke, &mut v, &mut src, &mut t);
+    let c = count_accepted(verbs, coords, stroke, lengths, &mut v, &mut src, &mut t);
     Measured::Counts(c.vertices, c.triangles)
 }
 
-fn measure_stroked(verbs: &[u8], coords: &[f32], stroke: Stroke) -> Measured
-    ensures { λ r. ⌜ measuredAnswerOf r ≡ measuredOf (now (verbs .entry)) (now (coords .entry)) stroke ⌝ }
+fn measure_stroked(verbs: &[u8], coords: &[f32], stroke: Stroke, lengths: &[f32]) -> Measured
+    ensures { λ r. ⌜ measuredAnswerOf r ≡ measuredOf (now (verbs .entry)) (now (coords .entry)) stroke (now (lengths .entry)) ⌝ }
 {
-    match check_path(verbs, coords) {
-        Checked::Accepted => measure_accepted(verbs, coords, stroke),
+    match check_cut_path(verbs, coords, lengths, stroke.offset, stroke.near) {
+        Checked::Accepted => measure_accepted(verbs, coords, stroke, lengths),
         Checked::Refused(r) => Measured::Refused(r),
     }
 }
 
-// Both counts of a path's mesh, or what is wrong with the options or the path.
-pub fn measure(verbs: &[u8], coords: &[f32], options: Options) -> Measured
-    ensures { λ r. ⌜ measuredAnswerOf r ≡ measureOf (now (verbs .entry)) (now (coords .entry)) options ⌝ }
+// Both counts of a path's mesh, or what is wrong with the options, the lengths of its dashes or the path.
+pub fn measure(verbs: &[u8], coords: &[f32], options: Options, lengths: &[f32]) -> Measured
+    ensures { λ r. ⌜ measuredAnswerOf r ≡ measureOf (now (verbs .entry)) (now (coords .entry)) options (now (lengths .entry)) ⌝ }
 {
-    match stroke_of(options) {
-        Stroked::Stroke(stroke) => measure_stroked(verbs, coords, stroke),
+    match stroke_of(options, lengths) {
+        Stroked::Stroke(stroke) => measure_stroked(verbs, coords, stroke, lengths),
         Stroked::Refused(r) => Measured::Refused(r),
     }
 }

@@ -1,12 +1,12 @@
 // The part of a mesh's vertex list that one run wrote.
 use crate::answer::Found;
 use crate::answer::part_answer_of;
+use cuts::check_cut_path;
 use options::Options;
 use options::Stroke;
 use options::Stroked;
 use options::stroke_of;
 use path::Checked;
-use path::check_path;
 use runs::part::Told;
 use runs::part::count_run;
 ghost use mathlib.Core.Path.{_≡_};
@@ -33,12 +33,19 @@ fn judged(told: Told, run: usize, room: usize) -> Found
     Found::Part(5 * seen.before, 5 * (seen.through - seen.before))
 }
 
-fn find_stroked(verbs: &[u8], coords: &[f32], stroke: Stroke, run: usize, floats: usize) -> Found
-    ensures { λ r. ⌜ partAnswerOf r ≡ strokedPartOf (now (verbs .entry)) (now (coords .entry)) stroke run floats ⌝ }
+fn find_stroked(
+    verbs: &[u8],
+    coords: &[f32],
+    stroke: Stroke,
+    lengths: &[f32],
+    run: usize,
+    floats: usize,
+) -> Found
+    ensures { λ r. ⌜ partAnswerOf r ≡ strokedPartOf (now (verbs .entry)) (now (coords .entry)) stroke (now (lengths .entry)) run floats ⌝ }
 {
-    match check_path(verbs, coords) {
+    match check_cut_path(verbs, coords, lengths, stroke.offset, stroke.near) {
         Checked::Accepted => {
-            let told = count_run(verbs, coords, stroke, run);
+            let told = count_run(verbs, coords, stroke, lengths, run);
             judged(told, run, floats / 5)
         }
         Checked::Refused(r) => Found::Refused(r),
@@ -46,11 +53,18 @@ fn find_stroked(verbs: &[u8], coords: &[f32], stroke: Stroke, run: usize, floats
 }
 
 // Where the part stands that the run of that number, from 0 over the begin verbs, wrote to a vertex list of so many floats.
-pub fn find_run(verbs: &[u8], coords: &[f32], options: Options, run: usize, floats: usize) -> Found
-    ensures { λ r. ⌜ partAnswerOf r ≡ partOf (now (verbs .entry)) (now (coords .entry)) options run floats ⌝ }
+pub fn find_run(
+    verbs: &[u8],
+    coords: &[f32],
+    options: Options,
+    lengths: &[f32],
+    run: usize,
+    floats: usize,
+) -> Found
+    ensures { λ r. ⌜ partAnswerOf r ≡ partOf (now (verbs .entry)) (now (coords .entry)) options (now (lengths .entry)) run floats ⌝ }
 {
-    match stroke_of(options) {
-        Stroked::Stroke(stroke) => find_stroked(verbs, coords, stroke, run, floats),
+    match stroke_of(options, lengths) {
+        Stroked::Stroke(stroke) => find_stroked(verbs, coords, stroke, lengths, run, floats),
         Stroked::Refused(r) => Found::Refused(r),
     }
 }
@@ -60,14 +74,15 @@ pub fn run_vertices<'a>(
     verbs: &[u8],
     coords: &[f32],
     options: Options,
+    lengths: &[f32],
     run: usize,
     vertices: &'a [f32],
     number: &mut u32,
     place: &mut usize,
 ) -> &'a [f32]
-    ensures { λ r. ⌜ record { number = now (number .exit); place = now (place .exit); part = now r } ≡ handedOf (now (verbs .entry)) (now (coords .entry)) options run (now (vertices .entry)) ⌝ }
+    ensures { λ r. ⌜ record { number = now (number .exit); place = now (place .exit); part = now r } ≡ handedOf (now (verbs .entry)) (now (coords .entry)) options (now (lengths .entry)) run (now (vertices .entry)) ⌝ }
 {
-    let a = part_answer_of(find_run(verbs, coords, options, run, vertices.len()));
+    let a = part_answer_of(find_run(verbs, coords, options, lengths, run, vertices.len()));
     *number = a.number;
     *place = a.place;
     let start = a.start;

@@ -14,7 +14,7 @@ use Rattle.path.specs.Path.{Sound}
 use Rattle.path.specs.Runs.{Run}
 use Rattle.options.specs.declared.Options.{Options}
 use Rattle.options.specs.declared.Stroke.{Stroke}
-use Rattle.path.proofs.Laws.{sound}
+use Rattle.cuts.proofs.Checked.{cut-sound}
 use Rattle.path.proofs.Runs.{formed, runs-verbs, runs-points}
 use Rattle.kept.specs.Points.{endpointsOf}
 use Rattle.kept.proofs.Indexed.{points-length}
@@ -22,7 +22,7 @@ use Rattle.pieces.specs.Piece.{Lists, lent, flatV, flatS, flatT}
 use Rattle.pieces.proofs.Pieces.{length-flatV, length-flatS, length-flatT}
 use Rattle.run.specs.Run.{shapeCount}
 use Rattle.run.proofs.Facts.{run-covers, run-linked, run-counts}
-use Rattle.runs.specs.Runs.{runsOf, drawnOf, meshVertices, meshCount, meshTriangles}
+use Rattle.runs.specs.Runs.{pathRuns, drawnOf, meshVertices, meshCount, meshTriangles}
 use Rattle.runs.proofs.Runs.{length-vertices}
 use Rattle.mesh.specs.Answer.{withCounts}
 use Rattle.mesh.proofs.Rooms.{smaller-both, smaller-least}
@@ -93,15 +93,15 @@ module _ (o : Stroke) (rs : List (Run Endpoint)) (l : Lists) where
   }
 
 -- ---- the whole call
-pub demand-3 : (verbs : List ℕ) (coords : List Float) (options : Options) (o : Stroke) → EarnsNone verbs coords options o → (l : Lists) → Demand3 verbs coords options o l
+pub demand-3 : (verbs : List ℕ) (coords : List Float) (options : Options) (ds : List Float) (o : Stroke) → EarnsNone verbs coords options ds o → (l : Lists) → Demand3 verbs coords options ds o l
 unfolding outcomeOf strokedOf
-demand-3 verbs coords options o e l =
-    let s : Sound verbs coords = sound verbs coords (e .accepted) in
+demand-3 verbs coords options ds o e l =
+    let s : Sound verbs coords = cut-sound (o .near) ds (o .offset) verbs coords (e .accepted) .0 in
     let f = formed verbs (s .placed) (s .ended) in
     let p = points-length coords 0 in
     record {
       verbs-are = runs-verbs verbs f (endpointsOf 0 coords) (omega (arith, s .paired));
       points-are = runs-points verbs f (endpointsOf 0 coords) (omega (arith, s .paired));
-      each = all-stand o 0 (runsOf verbs coords);
-      rooms = rw (e .within, e .accepted) (rooms-decide o (runsOf verbs coords) l);
+      each = all-stand o 0 (pathRuns o ds verbs coords);
+      rooms = rw (e .within, e .accepted) (rooms-decide o (pathRuns o ds verbs coords) l);
     }

@@ -1,5 +1,5 @@
--- Demand 3, in the mission's words, and W-207's: it "speaks of refusals 1 to 4", for every path that earns none of them. That it holds is
--- proofs/Demand3.antt. Assumes nothing.
+-- Demand 3, in the mission's words, and W-207's: it "speaks of refusals 1 to 4", and W-213's: "26 joins 1 to 4", for every path that earns none of them. "Demands 2 and 3
+-- read of the cut runs" (W-213), which are the path's own where there are no dashes. That it holds is proofs/Demand3.antt. Assumes nothing.
 use Prim.Native.Nat.{ℕ, _+_, _*_, _≤_, _<_}
 use mathlib.Core.Path.{_≡_}
 use mathlib.Core.List.{List, [], _∷_}
@@ -10,7 +10,7 @@ use lib.ListN.{length, take, drop}
 use Rattle.refusals.specs.Numbers.{numberOf, accepted, vertexRoom, triangleRoom}
 use Rattle.endpoint.specs.declared.Endpoint.{Endpoint}
 use Rattle.options.specs.Options.{isRound, accepting, strokeOf}
-use Rattle.path.specs.Path.{checkedOf}
+use Rattle.cuts.specs.Checked.{cutCheckedOf}
 use Rattle.path.specs.Runs.{Run, verbsOf, pointsOf}
 use Rattle.options.specs.declared.Options.{Options}
 use Rattle.options.specs.declared.Stroke.{Stroke}
@@ -23,14 +23,14 @@ use Rattle.triangles.specs.Attached.{Covers}
 use Rattle.triangles.specs.Facts.{Linked}
 use Rattle.run.specs.Facts.{RunCounts}
 use Rattle.run.specs.Run.{drawsCap, capSize, arcsAdded, shapeCount, shapeTriangles}
-use Rattle.runs.specs.Runs.{runsOf, drawnOf, meshVertices, meshCount, meshTriangles}
+use Rattle.runs.specs.Runs.{runsOf, pathRuns, drawnOf, meshVertices, meshCount, meshTriangles}
 use Rattle.mesh.specs.Answer.{withCounts}
 use Rattle.mesh.specs.Mesh.{Outcome, refused, outcomeOf}
 
--- none of refusals 1 to 4 is earned, and the options come to o
-pub record EarnsNone (verbs : List ℕ) (coords : List Float) (options : Options) (o : Stroke) : Type 0 where
-  pub within : strokeOf options ≡ accepting o
-  pub accepted : checkedOf verbs coords .number ≡ numberOf accepted
+-- none of refusals 1 to 4 and 26 is earned, and the options come to o
+pub record EarnsNone (verbs : List ℕ) (coords : List Float) (options : Options) (ds : List Float) (o : Stroke) : Type 0 where
+  pub within : strokeOf options ds ≡ accepting o
+  pub accepted : cutCheckedOf (o .near) ds (o .offset) verbs coords .number ≡ numberOf accepted
 
 -- "Counts follow from the join rules alone": by the points kept, their pair sides, what arcs add and, where one is kept, whether it draws the empty cap (a run has a line
 -- verb where it has more than one point); "each triangle names three different vertices of its run, every vertex is named", and each but a run's first shares exactly two
@@ -66,9 +66,9 @@ pub record Roomed (o : Stroke) (rs : List (Run Endpoint)) (l : Lists) (out : Out
       → out ≡ refused l (withCounts (numberOf triangleRoom) (meshCount o rs) (length (meshTriangles o 0 rs)))
   pub enough : 5 * meshCount o rs ≤ length (l .vertices) → meshCount o rs ≤ length (l .sources) → 3 * length (meshTriangles o 0 rs) ≤ length (l .triangles) → Written o rs l out
 
-pub record Demand3 (verbs : List ℕ) (coords : List Float) (options : Options) (o : Stroke) (l : Lists) : Type 0 where
-  -- the runs are the whole path, in order
+pub record Demand3 (verbs : List ℕ) (coords : List Float) (options : Options) (ds : List Float) (o : Stroke) (l : Lists) : Type 0 where
+  -- the uncut runs are the whole path, in order
   pub verbs-are : verbsOf (runsOf verbs coords) ≡ verbs
   pub points-are : pointsOf (runsOf verbs coords) ≡ endpointsOf 0 coords
-  pub each : AllStand o 0 (runsOf verbs coords)
-  pub rooms : Roomed o (runsOf verbs coords) l (outcomeOf verbs coords options l)
+  pub each : AllStand o 0 (pathRuns o ds verbs coords)
+  pub rooms : Roomed o (pathRuns o ds verbs coords) l (outcomeOf verbs coords options ds l)

@@ -9,12 +9,12 @@ use Rattle.refusals.specs.Numbers.{numberOf, accepted}
 use Rattle.endpoint.specs.declared.Endpoint.{Endpoint}
 use Rattle.lists.specs.Over.{over}
 use Rattle.options.specs.Options.{strokeOf}
-use Rattle.path.specs.Path.{checkedOf}
+use Rattle.cuts.specs.Checked.{cutCheckedOf}
 use Rattle.path.specs.Runs.{Run}
 use Rattle.options.specs.declared.Options.{Options}
 use Rattle.options.specs.declared.Stroke.{Stroke}
 use Rattle.pieces.specs.Piece.{Lists, lent, flatV, flatS, flatT}
-use Rattle.runs.specs.Runs.{runsOf, meshVertices, meshCount, meshTriangles}
+use Rattle.runs.specs.Runs.{pathRuns, meshVertices, meshCount, meshTriangles}
 use Rattle.mesh.specs.Answer.{meshAnswerOf, withPlace, isMesh, smallerOf, roomedOf}
 use Rattle.mesh.specs.declared.answer.Meshed.{Meshed}
 use Rattle.mesh.specs.declared.answer.MeshAnswer.{MeshAnswer}
@@ -56,10 +56,10 @@ module _ (l : Lists) where
   abbrev pub onceAccepted : ℕ → ℕ → Outcome → Outcome
   onceAccepted number place next = cond (eqb number (numberOf accepted)) next (refused (withPlace number place))
 
-  -- refusals 2, 3 and 4
-  unfoldable pub strokedOf : List ℕ → List Float → Stroke → Outcome
-  strokedOf verbs coords o = let a = checkedOf verbs coords in onceAccepted (a .number) (a .place) (acceptedOf o (runsOf verbs coords))
+  -- refusals 2, 3 and 4, and W-213: "26, .. directly after 4"
+  unfoldable pub strokedOf : List ℕ → List Float → Stroke → List Float → Outcome
+  strokedOf verbs coords o ds = let a = cutCheckedOf (o .near) ds (o .offset) verbs coords in onceAccepted (a .number) (a .place) (acceptedOf o (pathRuns o ds verbs coords))
 
--- refusal 1
-unfoldable pub outcomeOf : List ℕ → List Float → Options → Lists → Outcome
-outcomeOf verbs coords options l = let a = strokeOf options in onceAccepted l (a .number) (a .place) (strokedOf l verbs coords (a .stroke))
+-- refusal 1; the lengths of the dashes are ds
+unfoldable pub outcomeOf : List ℕ → List Float → Options → List Float → Lists → Outcome
+outcomeOf verbs coords options ds l = let a = strokeOf options ds in onceAccepted l (a .number) (a .place) (strokedOf l verbs coords (a .stroke) ds)

@@ -13,7 +13,7 @@ ghost use Rattle.mesh.specs.Answer.{meshAnswerOf, withCounts, withPlace,
 // A mesh, or the first refusal by number. A mesh and the refusals for want of room have both counts: vertices, then triangles.
 pub enum Meshed {
     Mesh(usize, usize),
-    // Refusals 1 to 4.
+    // Refusals 1 to 4, and 26.
     Refused(Refusal),
     // Refusal 6: too few vertex places.
     VertexRoom(usize, usize),

@@ -14,7 +14,7 @@ slice-aggregate-count-accepted-3 : tie.Need-slice-aggregate-count-accepted-3
 slice-aggregate-count-accepted-3 c = search needs
 
 count-accepted-requires : tie.Need-count-accepted-requires
-count-accepted-requires c κs = c .before .before .before .before .before .pre
+count-accepted-requires c κs = c .before .before .before .before .before .before .pre
 
 returns : tie.Need-returns
 returns c = counts-told _ _ (c .before .before .before .count-accepted .ensures .place)

@@ -23,7 +23,7 @@ slice-aggregate-draw-runs-3 : tie.Need-slice-aggregate-draw-runs-3
 slice-aggregate-draw-runs-3 c = search needs
 
 draw-runs-requires : tie.Need-draw-runs-requires
-draw-runs-requires c κs = let s = c .before .before .before .before .before .before .before .before .pre in (sound-paired _ _ s, counts-fit _ _ _ s _)
+draw-runs-requires c κs = let pre = c .before .before .before .before .before .before .before .before .before .pre in (sound-paired _ _ (pre .0), (pre .1, counts-fit _ _ _ _ (pre .0) (pre .1) _))
 
 same-length : tie.Need-same-length
 same-length c = search needs

@@ -1,8 +1,9 @@
 -- `mesh::mesh_accepted` meets its contract. Assumes nothing.
 use borrow.Author.Needs.{needs}
 use mathlib.Core.Path.{sym, _∙_}
+use lib.ListN.{length}
 use Rattle.options.proofs.Levels.{level-few}
-use Rattle.mesh.proofs.Rooms.{sound-paired, plenty-fits, plenty-drawn, mesh-fits, is-drawn, is-refused}
+use Rattle.mesh.proofs.Rooms.{spare, sound-paired, plenty-fits, plenty-drawn, mesh-fits, is-drawn, is-refused}
 use Rattle.mesh.proofs.mesh_accepted.Statement.{statement}
 use Rattle.mesh.proofs.mesh_accepted.Tie as tie
 
@@ -13,13 +14,19 @@ level-of-requires : tie.Need-level-of-requires
 level-of-requires c κs = search needs
 
 is-plenty-requires : tie.Need-is-plenty-requires
-is-plenty-requires c κs = rw (c .level-of .ensures) (level-few (c .before .before .before .before .before .before .before .args .stroke))
+is-plenty-requires c κs = rw (c .level-of .ensures) (level-few (c .before .before .before .before .before .before .before .before .args .stroke))
 
 draw-runs-requires : tie.Need-draw-runs-requires
 draw-runs-requires c κs =
-    let pre = c .before .before .before .before .before .before .before .before .before .before .before .before .pre in
-    let q = rw (c .before .before .before .before .before .level-of .ensures, c .before .before .before .before .before .before .smaller .ensures) at (c .before .before .before .before .is-plenty .ensures (c .before .before .before .if1 .taken)) in
-    (sound-paired _ _ pre, plenty-fits _ _ _ pre _ q)
+    let at-if1 = c .before .before .before in
+    let at-is-plenty = at-if1 .before in
+    let at-level-of = at-is-plenty .before in
+    let at-smaller = at-level-of .before in
+    let start = at-smaller .before .before .before .before .before .before .before in
+    let pre = start .pre in
+    let h = spare _ (length (start .args .lengths .now)) (at-if1 .if1 .taken) in
+    let q = rw (at-level-of .level-of .ensures, at-smaller .smaller .ensures) at (at-is-plenty .is-plenty .ensures (h .0)) in
+    (sound-paired _ _ (pre .0), (pre .1, plenty-fits _ _ _ _ (pre .0) (pre .1) _ (h .1) q))
 
 same-length : tie.Need-same-length
 same-length c = search needs
@@ -37,13 +44,14 @@ returns c =
     let at-is-plenty = at-if1 .before in
     let at-level-of = at-is-plenty .before in
     let at-smaller = at-level-of .before in
-    let start = at-smaller .before .before .before .before .before .before in
+    let start = at-smaller .before .before .before .before .before .before .before in
     let pre = start .pre in
-    let q = rw (at-level-of .level-of .ensures, at-smaller .smaller .ensures) at (at-is-plenty .is-plenty .ensures (at-if1 .if1 .taken)) in
-    plenty-drawn _ _ _ pre _ q (at-draw-runs .draw-runs .ensures)
+    let h = spare _ (length (start .args .lengths .now)) (at-if1 .if1 .taken) in
+    let q = rw (at-level-of .level-of .ensures, at-smaller .smaller .ensures) at (at-is-plenty .is-plenty .ensures (h .0)) in
+    plenty-drawn _ _ _ _ (pre .0) (pre .1) _ (h .1) q (at-draw-runs .draw-runs .ensures)
 
 count-accepted-requires : tie.Need-count-accepted-requires
-count-accepted-requires c κs = c .before .before .before .before .before .before .before .before .before .before .before .before .pre
+count-accepted-requires c κs = c .before .before .before .before .before .before .before .before .before .before .before .before .before .pre
 
 judged-requires : tie.Need-judged-requires
 judged-requires c κs = search needs
@@ -58,10 +66,10 @@ draw-runs-requires-2 c κs =
     let at-judged = at-fits2 .before in
     let at-count-accepted = at-judged .before .before .before .before .before .before .before in
     let at-smaller = at-count-accepted .before .before .before .before .before .before .before in
-    let start = at-smaller .before .before .before .before .before .before in
+    let start = at-smaller .before .before .before .before .before .before .before in
     let pre = start .pre in
     let j = rw (at-smaller .smaller .ensures) at (at-judged .judged .ensures) in
-    (sound-paired _ _ pre, mesh-fits _ _ _ pre _ (at-count-accepted .count-accepted .ensures) _ j (sym (at-fits2 .fits2 .ensures) ∙ at-if2 .if2 .taken))
+    (sound-paired _ _ (pre .0), (pre .1, mesh-fits _ _ _ _ (pre .0) (pre .1) _ (at-count-accepted .count-accepted .ensures) _ j (sym (at-fits2 .fits2 .ensures) ∙ at-if2 .if2 .taken)))
 
 same-length-4 : tie.Need-same-length-4
 same-length-4 c = search needs
@@ -80,10 +88,10 @@ returns-2 c =
     let at-judged = at-fits2 .before in
     let at-count-accepted = at-judged .before .before .before .before .before .before .before in
     let at-smaller = at-count-accepted .before .before .before .before .before .before .before in
-    let start = at-smaller .before .before .before .before .before .before in
+    let start = at-smaller .before .before .before .before .before .before .before in
     let pre = start .pre in
     let j = rw (at-smaller .smaller .ensures) at (at-judged .judged .ensures) in
-    is-drawn _ _ _ pre _ (at-count-accepted .count-accepted .ensures) _ j (sym (at-fits2 .fits2 .ensures) ∙ at-if2 .if2 .taken) (at-draw-runs2 .draw-runs2 .ensures)
+    is-drawn _ _ _ _ (pre .0) (pre .1) _ (at-count-accepted .count-accepted .ensures) _ j (sym (at-fits2 .fits2 .ensures) ∙ at-if2 .if2 .taken) (at-draw-runs2 .draw-runs2 .ensures)
 
 same-length-7 : tie.Need-same-length-7
 same-length-7 c = search needs
@@ -96,9 +104,14 @@ same-length-9 c = search needs
 
 returns-3 : tie.Need-returns-3
 returns-3 c =
-    let pre = c .before .before .before .before .before .before .before .before .before .before .before .before .before .before .before .before .before .before .before .before .before .before .pre in
-    let j = rw (c .before .before .before .before .before .before .before .before .before .before .before .before .before .before .before .before .smaller .ensures) at (c .before .before .judged .ensures) in
-    is-refused _ _ _ pre _ (c .before .before .before .before .before .before .before .before .before .count-accepted .ensures) _ j (sym (c .before .fits2 .ensures) ∙ c .if2 .left)
+    let at-fits2 = c .before in
+    let at-judged = at-fits2 .before in
+    let at-count-accepted = at-judged .before .before .before .before .before .before .before in
+    let at-smaller = at-count-accepted .before .before .before .before .before .before .before in
+    let start = at-smaller .before .before .before .before .before .before .before in
+    let pre = start .pre in
+    let j = rw (at-smaller .smaller .ensures) at (at-judged .judged .ensures) in
+    is-refused _ _ _ _ (pre .0) (pre .1) _ (at-count-accepted .count-accepted .ensures) _ j (sym (at-fits2 .fits2 .ensures) ∙ c .if2 .left)
 
 pub mesh-accepted-spec : {M : Type 1} → statement M
 mesh-accepted-spec =

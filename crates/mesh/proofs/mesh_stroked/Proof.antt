@@ -3,20 +3,20 @@ use borrow.Author.Needs.{needs}
 use mathlib.Core.Path.{sym, ap, _∙_}
 use Rattle.refusals.specs.declared.Verdict.{Verdict}
 use Rattle.path.specs.Path.{checkAnswerOf}
-use Rattle.path.proofs.Laws.{sound}
+use Rattle.cuts.proofs.Checked.{cut-sound}
 use Rattle.mesh.proofs.Rooms.{refused-first}
 use Rattle.mesh.specs.Mesh.{strokedOf}
 use Rattle.mesh.proofs.mesh_stroked.Statement.{statement}
 use Rattle.mesh.proofs.mesh_stroked.Tie as tie
 
-check-path-requires : tie.Need-check-path-requires
-check-path-requires c κs = search needs
+check-cut-path-requires : tie.Need-check-cut-path-requires
+check-cut-path-requires c κs = search needs
 
 enum-told : tie.Need-enum-told
 enum-told c = search needs
 
 mesh-accepted-requires : tie.Need-mesh-accepted-requires
-mesh-accepted-requires c κs = sound _ _ (ap (λ (a : Verdict). a .number) (sym (c .before .before .before .before .before .check-path .ensures) ∙ ap checkAnswerOf (c .before .before .before .enum-told .given .1)))
+mesh-accepted-requires c κs = cut-sound _ _ _ _ _ (ap (λ (a : Verdict). a .number) (sym (c .before .before .before .before .before .check-cut-path .ensures) ∙ ap checkAnswerOf (c .before .before .before .enum-told .given .1)))
 
 enum-known-r : tie.Need-enum-known-r
 enum-known-r c = search needs
@@ -35,18 +35,18 @@ unfolding strokedOf
 returns c =
     let at-mesh-accepted = c .before .before .before .before .before .before in
     let at-enum-told = at-mesh-accepted .before .before .before .before in
-    let at-check-path = at-enum-told .before .before in
-    rw (← at-check-path .check-path .ensures, at-enum-told .enum-told .given .1) (at-mesh-accepted .mesh-accepted .ensures)
+    let at-check-cut-path = at-enum-told .before .before in
+    rw (← at-check-cut-path .check-cut-path .ensures, at-enum-told .enum-told .given .1) (at-mesh-accepted .mesh-accepted .ensures)
 
 returns-2 : tie.Need-returns-2
 unfolding strokedOf
-returns-2 c = rw (← c .before .before .before .check-path .ensures, c .before .r .given .1) (refused-first _ (c .before .r .given .0 .0) _)
+returns-2 c = rw (← c .before .before .before .check-cut-path .ensures, c .before .r .given .1) (refused-first _ (c .before .r .given .0 .0) _)
 
 pub mesh-stroked-spec : {M : Type 1} → statement M
 mesh-stroked-spec =
     tie.close
     (tie.spec
-    check-path-requires
+    check-cut-path-requires
     enum-told
     mesh-accepted-requires
     enum-known-r
