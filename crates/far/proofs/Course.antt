@@ -10,7 +10,8 @@ use Rattle.lists.specs.All.{All}
 use Rattle.lists.proofs.All.{all-append}
 use Rattle.kept.proofs.Keeping.{Chain, Spaced, kept-all, kept-spaced}
 use Rattle.rounding.proofs.Results.{Within}
-use Rattle.far.specs.Short.{NotShort, legsOf, Inside}
+use Rattle.stays.specs.Stays.{Inside}
+use Rattle.far.specs.Short.{NotShort, legsOf}
 use Rattle.far.proofs.Ranges.{Limit}
 use Rattle.far.proofs.Apart.{Reached}
 use Rattle.far.proofs.Edge.{not-short, near-mutual}

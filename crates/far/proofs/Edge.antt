@@ -13,8 +13,10 @@ use Rattle.joints.specs.Leg.{legOf}
 use Rattle.rounding.proofs.Results.{bounded-neg, Within}
 use Rattle.rounding.proofs.Differences.{Gap, gap}
 use Rattle.rounding.proofs.Squares.{squareLength, square-mirrored}
-use Rattle.far.specs.Short.{shortOf, NotShort, Inside}
-use Rattle.far.proofs.Ranges.{Limit, coordinate}
+use Rattle.stays.specs.Stays.{Inside}
+use Rattle.stays.proofs.Cutting.{coordinate}
+use Rattle.far.specs.Short.{shortOf, NotShort}
+use Rattle.far.proofs.Ranges.{Limit}
 use Rattle.far.proofs.Apart.{Apart, not-near-apart, Reached, two-grains}
 use Rattle.far.proofs.Offsets.{Offset, offset-x, offset-y}
 use Rattle.far.proofs.Moved.{moved}

@@ -1,20 +1,22 @@
--- What the limits tell of the numbers within them: a coordinate is finite and at most 32,768 in size, a half width finite and at most 8,192, and a merge
--- range squared at least 2 ^ -14; and that accepted options have such a half width and such a range. Assumes nothing.
+-- What the limits tell of the numbers within them: a half width is finite and at most 8,192, and a merge range squared at least 2 ^ -14; and that accepted
+-- options have such a half width and such a range, and an accepted pattern. Assumes nothing.
 use mathlib.Core.Path.{_≡_, refl, sym, ap, subst}
 use Prim.Native.Nat.{ℕ, _*_, _≤_, _<_}
 use native.Mathlib.Nat.{le-trans, le-of-eq, le-of-lt, mul-le-mul, mul-le-mul-right, mul-pos}
 use native.Mathlib.Omega.{arith}
 use mathlib.Core.Bool.{Bool, true, false, _&&_, _||_, false≢true}
+use mathlib.Core.List.{List}
 use lib.IntN.{ℤ, pos}
 use lib.Dec.{T, ltb, eqb, ltb→lt, eqb→eq, lit<}
 use lib.Ieee.{Float, nan, inf, fin, binary32, up, down, unlike, neg, mul, lt, eq, le, ofBits}
+use lib.Ieee.Bits.{is-true}
 use lib.Ieee.Fits.{and-l, and-r}
 use lib.Ieee.Scale.{finite}
 use lib.Ieee.Exact.{HasValue}
 use lib.Ieee.Positive.{num, den, den-pos, between, positive-finite, le→cross}
 use Rattle.plane.specs.Normal.{pick}
 use Rattle.plane.specs.F32.{sizeAtMost}
-use Rattle.path.specs.Coordinates.{coordinateLimit}
+use Rattle.dashes.specs.Pattern.{patternIn}
 use Rattle.options.specs.Options.{within, widthIn, limitIn, mergeIn, joinIn, capIn, detailIn, inRange, preparedOf, accepting, strokeOf}
 use Rattle.options.specs.declared.Options.{Options}
 use Rattle.options.specs.declared.Stroke.{Stroke}
@@ -56,13 +58,6 @@ sized n g (fin false m d) e =
     let b = n * up g * down d in
     let t = and-r (le (fin true n g) (fin false m d)) (le (fin false m d) (fin false n g)) (told _ e) in
     (tt, less-or-equal a b (ltb a b) (eqb a b) (ltb→lt a b) (eqb→eq a b) t)
-
-pub coordinate : (x : Float) → sizeAtMost x coordinateLimit ≡ true → Within 32768 x
-unfolding ofBits
-coordinate x e = let s = sized 1 (pos 15) x e in (s .0, plain (num x) (den x) (s .1))
-  where
-    plain : (x y : ℕ) → x * 1 ≤ 1 * 32768 * y → x ≤ 32768 * y
-    plain x y h = omega arith
 
 pub half : (h : Float) → Half h → Within 8192 h
 unfolding ofBits
@@ -163,9 +158,22 @@ module _ (o : Options) (e : inRange o ≡ true) where
   merge-in : T (mergeIn (o .«merge_range»))
   merge-in = and-r (widthIn (o .width) && limitIn (o .«miter_limit»)) (mergeIn (o .«merge_range»)) floats-in
 
-pub accepted : (options : Options) (o : Stroke) → strokeOf options ≡ accepting o → (inRange options ≡ true) × (preparedOf options ≡ o)
-unfolding strokeOf
-accepted options o e = chosen (inRange options) (preparedOf options) _ refl e
+-- what options that come to the stroke o are
+pub record Accepted (options : Options) (ds : List Float) (o : Stroke) : Type 0 where
+  pub within : inRange options ≡ true
+  pub pattern : patternIn ds (o .offset) ≡ true
+  pub prepared : preparedOf options ≡ o
+
+pub accepted : (options : Options) (ds : List Float) (o : Stroke) → strokeOf options ds ≡ accepting o → Accepted options ds o
+unfolding strokeOf preparedOf
+accepted options ds o e =
+    let c = chosen (inRange options && patternIn ds (options .offset)) (preparedOf options) _ refl e in
+    let t = told (inRange options && patternIn ds (options .offset)) (c .0) in
+    record {
+      within = is-true (inRange options) (and-l (inRange options) (patternIn ds (options .offset)) t);
+      pattern = subst (λ (s : Stroke). patternIn ds (s .offset) ≡ true) (c .1) (is-true (patternIn ds (options .offset)) (and-r (inRange options) (patternIn ds (options .offset)) t));
+      prepared = c .1;
+    }
   where
     chosen : (t : Bool) (s : Stroke) (refused : StrokeAnswer) → 1 ≡ refused .number → pick t (accepting s) refused ≡ accepting o → (t ≡ true) × (s ≡ o)
     chosen true s refused r e = (refl, ap (λ (a : StrokeAnswer). a .stroke) e)
@@ -175,17 +183,17 @@ pub prepared-half : (o : Options) → preparedOf o .«half_width» ≡ mul binar
 unfolding preparedOf
 prepared-half o = refl
 
-pub half-width : (options : Options) (o : Stroke) → strokeOf options ≡ accepting o → Within 8192 (o .«half_width»)
-half-width options o e =
-    let a = accepted options o e in
-    subst (λ (s : Stroke). Within 8192 (s .«half_width»)) (a .1) (subst (Within 8192) (sym (prepared-half options)) (halved (options .width) (width-bound (options .width) (width-in options (a .0)))))
+pub half-width : (options : Options) (ds : List Float) (o : Stroke) → strokeOf options ds ≡ accepting o → Within 8192 (o .«half_width»)
+half-width options ds o e =
+    let a = accepted options ds o e in
+    subst (λ (s : Stroke). Within 8192 (s .«half_width»)) (a .prepared) (subst (Within 8192) (sym (prepared-half options)) (halved (options .width) (width-bound (options .width) (width-in options (a .within)))))
 
 prepared-near : (o : Options) → preparedOf o .near ≡ mul binary32 (o .«merge_range») (o .«merge_range»)
 unfolding preparedOf
 prepared-near o = refl
 
-pub near-limit : (options : Options) (o : Stroke) → strokeOf options ≡ accepting o → Limit (o .near)
-near-limit options o e =
-    let a = accepted options o e in
+pub near-limit : (options : Options) (ds : List Float) (o : Stroke) → strokeOf options ds ≡ accepting o → Limit (o .near)
+near-limit options ds o e =
+    let a = accepted options ds o e in
     let r = options .«merge_range» in
-    subst (λ (s : Stroke). Limit (s .near)) (a .1) (subst Limit (sym (prepared-near options)) (squared r (merge-bounds r (merge-in options (a .0)))))
+    subst (λ (s : Stroke). Limit (s .near)) (a .prepared) (subst Limit (sym (prepared-near options)) (squared r (merge-bounds r (merge-in options (a .within)))))

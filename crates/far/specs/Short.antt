@@ -8,7 +8,6 @@ use Rattle.plane.specs.F32.{_⊗_, f32, sizeAtMost}
 use Rattle.plane.specs.Vector.{minusOf, squareLengthOf}
 use Rattle.plane.specs.declared.vector.Point.{Point}
 use Rattle.endpoint.specs.declared.Endpoint.{Endpoint}
-use Rattle.path.specs.Coordinates.{coordinateLimit}
 use Rattle.path.specs.Runs.{Run}
 use Rattle.options.specs.Options.{mergeIn}
 use Rattle.options.specs.declared.Stroke.{Stroke}
@@ -16,6 +15,7 @@ use Rattle.lists.specs.All.{All}
 use Rattle.kept.specs.Kept.{keptPoints}
 use Rattle.joints.specs.Leg.{firstLegOf, legsFrom}
 use Rattle.joints.specs.declared.leg.Leg.{Leg}
+use Rattle.stays.specs.Stays.{Inside}
 
 -- ---- "offset points so near": refusal 5 was "an edge whose offset points on a side have f32 squared distance below 2^-40"
 abbrev pub soNear : Float
@@ -45,11 +45,7 @@ unfoldable pub meshEdges : Stroke → List (Run Endpoint) → List Leg
 meshEdges o [] = []
 meshEdges o (r ∷ rs) = legsOf (r .closed) (o .«half_width») (keptPoints (o .near) (r .closed) (r .points)) ++ meshEdges o rs
 
--- ---- "document 01's limits": "Coordinates are finite, -32,768 to 32,768"; "width 1/256 to 16,384", of which h is the half
-pub record Inside (p : Endpoint) : Type 0 where
-  pub x : sizeAtMost (p .position .x) coordinateLimit ≡ true
-  pub y : sizeAtMost (p .position .y) coordinateLimit ≡ true
-
+-- ---- "document 01's limits": points inside, as stays has them, and "width 1/256 to 16,384", of which h is the half
 abbrev pub Half : Float → Type 0
 Half h = sizeAtMost h (f32 0x46000000) ≡ true
 

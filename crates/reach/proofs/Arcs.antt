@@ -42,7 +42,7 @@ use Rattle.bends.specs.declared.Bend.{Bend}
 use Rattle.weave.specs.Points.{bendsOf}
 use Rattle.woven.specs.Woven.{wovenOf}
 use Rattle.units.proofs.Vectors.{UnitVector, reversed}
-use Rattle.far.specs.Short.{Inside}
+use Rattle.stays.specs.Stays.{Inside}
 use Rattle.far.proofs.Ranges.{Limit}
 use Rattle.reach.proofs.Widths.{Wide}
 use Rattle.reach.proofs.Beside.{normal, looser}

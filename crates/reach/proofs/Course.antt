@@ -32,7 +32,7 @@ use Rattle.weave.specs.Points.{bendsFrom, bendsOf}
 use Rattle.woven.proofs.Sizes.{joints-from}
 use Rattle.vertices.specs.Base.{baseVertexOf, sideVerticesOf, baseVerticesOf}
 use Rattle.vertices.specs.Vertex.{vertexOf}
-use Rattle.far.specs.Short.{Inside}
+use Rattle.stays.specs.Stays.{Inside}
 use Rattle.far.proofs.Ranges.{Limit}
 use Rattle.reach.proofs.Widths.{Wide}
 use Rattle.reach.proofs.Edges.{Edged, edged}
@@ -46,6 +46,11 @@ joint-level j = all-append (λ (v : Vertex). v .advancement ≡ j .advancement) 
     side : (s : Side) (ps : SidePoints) → All (λ (v : Vertex). v .advancement ≡ j .advancement) (sideVerticesOf j s ps)
     side s (Single x y) = unfold sideVerticesOf baseVertexOf vertexOf in (refl, tt)
     side s (Pair x0 y0 x1 y1) = unfold sideVerticesOf baseVertexOf vertexOf in (refl, (refl, tt))
+
+-- fewer points make no more than 65,536 legs: an open run has one leg less than points, and a closed one is walked on to its second point again
+abbrev pub pointLimit : Bool → ℕ
+pointLimit true = 65536
+pointLimit false = 65538
 
 module _ (o : Stroke) (S : Wide o) (L : Limit (o .near)) where
   abbrev h : Float
@@ -139,7 +144,7 @@ module _ (o : Stroke) (S : Wide o) (L : Limit (o .near)) where
   joints-are true (p0 ∷ p1 ∷ ps) = joints-from true o (firstLegOf h p0 p1) (ps ++ p0 ∷ p1 ∷ [])
   joints-are false (p0 ∷ p1 ∷ ps) = let leg = firstLegOf h p0 p1 in ap (λ (js : List EndpointData). startCapOf o leg ∷ js) (joints-from false o leg ps)
 
-  pub joints-course : (closed : Bool) (ks : List Endpoint) → length ks < 65536 → All Inside ks → Spaced (o .near) closed ks → Course 0 (standing closed ks)
+  pub joints-course : (closed : Bool) (ks : List Endpoint) → length ks < pointLimit closed → All Inside ks → Spaced (o .near) closed ks → Course 0 (standing closed ks)
   unfolding bendsOf
   joints-course closed [] K i c = tt
   joints-course closed (p0 ∷ []) K i c = tt

@@ -38,7 +38,7 @@ use Rattle.vertices.specs.Cap.{capVertexOf, capPairOf, capVerticesOf}
 use Rattle.vertices.specs.Vertex.{vertexOf}
 use Rattle.vertices.proofs.Laws.{length-cap}
 use Rattle.rounding.proofs.Results.{Bounded, bounded-neg}
-use Rattle.far.specs.Short.{Inside}
+use Rattle.stays.specs.Stays.{Inside}
 use Rattle.far.proofs.Ranges.{Limit}
 use Rattle.far.proofs.Edge.{near-mutual}
 use Rattle.reach.specs.Reach.{baseCount}
@@ -46,7 +46,7 @@ use Rattle.reach.proofs.Widths.{Wide}
 use Rattle.reach.proofs.Beside.{looser}
 use Rattle.reach.proofs.Joints.{Held, unity, vertex-held}
 use Rattle.reach.proofs.Advancements.{none-yet, From, here, Rising, level, rising-from}
-use Rattle.reach.proofs.Course.{Unclipped, Course, standing, joints-are, joints-course, course-held, course-rising}
+use Rattle.reach.proofs.Course.{pointLimit, Unclipped, Course, standing, joints-are, joints-course, course-held, course-rising}
 use Rattle.reach.proofs.Arcs.{OnArc, woven-on}
 use Rattle.reach.proofs.Rims.{arc-held, arc-from}
 
@@ -167,7 +167,7 @@ module _ (o : Stroke) (S : Wide o) (L : Limit (o .near)) where
       go true = round-drawn closed (p ∷ q ∷ ks) c (roundOf o) round-unclipped zeroth
       go false = strip-drawn closed (p ∷ q ∷ ks) c
 
-  pub run-drawn : (closed : Bool) (ps : List Endpoint) → length ps < 65536 → All Inside ps → let s = shapeOf o closed ps in Drawn (baseCount s) (shapeVertices o s)
+  pub run-drawn : (closed : Bool) (ps : List Endpoint) → length ps < pointLimit closed → All Inside ps → let s = shapeOf o closed ps in Drawn (baseCount s) (shapeVertices o s)
   unfolding shapeOf
   run-drawn closed ps K i =
       let ks = keptPoints (o .near) closed ps in

@@ -22,8 +22,9 @@ use Rattle.rounding.proofs.Scales.{one, grain, speck, grains-square}
 use Rattle.rounding.proofs.Results.{Bounded, made-bounded, Within}
 use Rattle.units.proofs.Lengths.{Long}
 use Rattle.units.proofs.Vectors.{UnitVector, Sized, measured, normalized, unit, turned, short-x, short-y}
-use Rattle.far.specs.Short.{Inside}
-use Rattle.far.proofs.Ranges.{Limit, coordinate}
+use Rattle.stays.specs.Stays.{Inside}
+use Rattle.stays.proofs.Cutting.{coordinate}
+use Rattle.far.proofs.Ranges.{Limit}
 use Rattle.far.proofs.Apart.{Apart, apart-distance}
 use Rattle.far.proofs.Moved.{moved}
 use Rattle.far.proofs.Edge.{gap-x, gap-y, near-apart}

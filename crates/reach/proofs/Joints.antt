@@ -37,7 +37,7 @@ use Rattle.rounding.proofs.Scales.{one}
 use Rattle.rounding.proofs.Results.{Bounded, bounded-neg}
 use Rattle.units.proofs.Vectors.{UnitVector, reversed}
 use Rattle.units.proofs.Normals.{bounded}
-use Rattle.far.specs.Short.{Inside}
+use Rattle.stays.specs.Stays.{Inside}
 use Rattle.reach.proofs.Widths.{Width, Part, itself, Wide}
 use Rattle.reach.proofs.Beside.{bounded-times, offset, further, stepped, normal, place}
 use Rattle.reach.proofs.Edges.{Short, unit-short, x-in, y-in, Lies, moved-off, Sided, Edged}

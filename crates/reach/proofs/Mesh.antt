@@ -1,7 +1,7 @@
 -- From the mesh to the list: where the call answers 0, the list that it leaves holds the vertices of all runs, five floats to each, in order. Assumes nothing.
 use mathlib.Core.Path.{_≡_, refl, sym, ap, _∙_, subst}
 use Prim.Native.Nat.{ℕ, zero, suc, _+_, _*_, _/_, _≤_, _<_}
-use mathlib.Core.Bool.{Bool, true, false, cond, true≢false}
+use mathlib.Core.Bool.{Bool, true, false, _&&_, cond, true≢false}
 use mathlib.Core.List.{List, [], _∷_}
 use native.Mathlib.Omega.{arith}
 use borrow.Author.Tests.{ltb-false, eqb-true}
@@ -17,10 +17,11 @@ use Rattle.endpoint.specs.declared.Endpoint.{Endpoint}
 use Rattle.options.specs.Options.{inRange, preparedOf, accepting, refusing, strokeOf}
 use Rattle.options.specs.declared.Options.{Options}
 use Rattle.options.specs.declared.Stroke.{Stroke}
-use Rattle.path.specs.Path.{checkedOf}
 use Rattle.path.specs.Runs.{Run}
+use Rattle.dashes.specs.Pattern.{patternIn}
+use Rattle.cuts.specs.Checked.{cutCheckedOf}
 use Rattle.pieces.specs.Piece.{Vertex, Lists, flatV}
-use Rattle.runs.specs.Runs.{runsOf, meshVertices, meshCount, meshTriangles}
+use Rattle.runs.specs.Runs.{pathRuns, meshVertices, meshCount, meshTriangles}
 use Rattle.runs.proofs.Runs.{length-vertices}
 use Rattle.mesh.specs.Answer.{withCounts, withPlace, isMesh, roomedOf}
 use Rattle.mesh.specs.Demand3.{EarnsNone}
@@ -63,9 +64,9 @@ once-accepted l number place next e = go (eqb number (numberOf accepted)) refl e
     go true f e = (eqb-true number (numberOf accepted) f, e)
     go false f e = absurd (true≢false (rw e at f))
 
-stroke-accepted : (options : Options) → strokeOf options .number ≡ numberOf accepted → strokeOf options ≡ accepting (strokeOf options .stroke)
+stroke-accepted : (options : Options) (ds : List Float) → strokeOf options ds .number ≡ numberOf accepted → strokeOf options ds ≡ accepting (strokeOf options ds .stroke)
 unfolding strokeOf
-stroke-accepted options e = go (inRange options) e
+stroke-accepted options ds e = go (inRange options && patternIn ds (options .offset)) e
   where
     go : (t : Bool) → pick t (accepting (preparedOf options)) (refusing OutOfRange) .number ≡ numberOf accepted
         → pick t (accepting (preparedOf options)) (refusing OutOfRange) ≡ accepting (pick t (accepting (preparedOf options)) (refusing OutOfRange) .stroke)
@@ -90,21 +91,20 @@ accepted-roomed l o rs e = go (isMesh (roomFor l o rs)) e
     go false e = e
 
 -- ---- so the list holds every vertex that is counted
-pub record Left (verbs : List ℕ) (coords : List Float) (options : Options) (l : Lists) : Type 0 where
-  pub earned : EarnsNone verbs coords options (strokeOf options .stroke)
-  pub count : outcomeOf verbs coords options l .answer .vertices ≡ length (meshVertices (strokeOf options .stroke) (runsOf verbs coords))
-  pub reads : (i : ℕ) → i < length (meshVertices (strokeOf options .stroke) (runsOf verbs coords))
-      → Spelt (outcomeOf verbs coords options l .lists .vertices) i (getD (meshVertices (strokeOf options .stroke) (runsOf verbs coords)) i blank)
-
-module _ (verbs : List ℕ) (coords : List Float) (options : Options) (l : Lists) where
+module _ (verbs : List ℕ) (coords : List Float) (options : Options) (ds : List Float) (l : Lists) where
   abbrev o : Stroke
-  o = strokeOf options .stroke
+  o = strokeOf options ds .stroke
 
   abbrev rs : List (Run Endpoint)
-  rs = runsOf verbs coords
+  rs = pathRuns o ds verbs coords
 
   abbrev out : Outcome
-  out = outcomeOf verbs coords options l
+  out = outcomeOf verbs coords options ds l
+
+  pub record Left : Type 0 where
+    pub earned : EarnsNone verbs coords options ds o
+    pub count : out .answer .vertices ≡ length (meshVertices o rs)
+    pub reads : (i : ℕ) → i < length (meshVertices o rs) → Spelt (out .lists .vertices) i (getD (meshVertices o rs) i blank)
 
   taken : {fs : List Float} (n : ℕ) → take (5 * n) fs ≡ flatV (meshVertices o rs) → n ≡ length (meshVertices o rs) → (i : ℕ) → i < length (meshVertices o rs) → Spelt fs i (getD (meshVertices o rs) i blank)
   taken {fs} n e f i h =
@@ -114,21 +114,22 @@ module _ (verbs : List ℕ) (coords : List Float) (options : Options) (l : Lists
       at : {z : Float} (j : ℕ) → j < 5 → getD (flatV (meshVertices o rs)) (5 * i + j) nan ≡ z → getD fs (5 * i + j) nan ≡ z
       at {z} j k g = sym (getD-take (5 * n) fs (5 * i + j) nan (omega (arith, f))) ∙ ap (λ (xs : List Float). getD xs (5 * i + j) nan) e ∙ g
 
-  stroked : out .answer .number ≡ numberOf accepted → (strokeOf options .number ≡ numberOf accepted) × (strokedOf l verbs coords o .answer .number ≡ numberOf accepted)
+  stroked : out .answer .number ≡ numberOf accepted → (strokeOf options ds .number ≡ numberOf accepted) × (strokedOf l verbs coords o ds .answer .number ≡ numberOf accepted)
   unfolding outcomeOf
-  stroked e = once-accepted l (strokeOf options .number) (strokeOf options .place) (strokedOf l verbs coords o) e
+  stroked e = once-accepted l (strokeOf options ds .number) (strokeOf options ds .place) (strokedOf l verbs coords o ds) e
 
-  checked : strokedOf l verbs coords o .answer .number ≡ numberOf accepted → (checkedOf verbs coords .number ≡ numberOf accepted) × (acceptedOf l o rs .answer .number ≡ numberOf accepted)
+  checked : strokedOf l verbs coords o ds .answer .number ≡ numberOf accepted
+      → (cutCheckedOf (o .near) ds (o .offset) verbs coords .number ≡ numberOf accepted) × (acceptedOf l o rs .answer .number ≡ numberOf accepted)
   unfolding strokedOf
-  checked e = once-accepted l (checkedOf verbs coords .number) (checkedOf verbs coords .place) (acceptedOf l o rs) e
+  checked e = let a = cutCheckedOf (o .near) ds (o .offset) verbs coords in once-accepted l (a .number) (a .place) (acceptedOf l o rs) e
 
-  pub left : out .answer .number ≡ numberOf accepted → Left verbs coords options l
+  pub left : out .answer .number ≡ numberOf accepted → Left
   left e =
       let a = stroked e in
       let b = checked (a .1) in
-      let E : EarnsNone verbs coords options o = record { within = stroke-accepted options (a .0); accepted = b .0 } in
+      let E : EarnsNone verbs coords options ds o = record { within = stroke-accepted options ds (a .0); accepted = b .0 } in
       let r = roomed (meshCount o rs) (length (meshTriangles o 0 rs)) (vertexPlaces l) (length (l .triangles) / 3) (accepted-roomed l o rs (b .1)) in
       let s = smaller-both (length (l .vertices) / 5) (length (l .sources)) in
-      let w = demand-3 verbs coords options o E l .rooms .enough (omega (arith, r .0, s .0)) (omega (arith, r .0, s .1)) (omega (arith, r .1)) in
+      let w = demand-3 verbs coords options ds o E l .rooms .enough (omega (arith, r .0, s .0)) (omega (arith, r .0, s .1)) (omega (arith, r .1)) in
       let n = length-vertices o rs in
       record { earned = E; count = ap (λ (m : MeshAnswer). m .vertices) (w .answer) ∙ sym n; reads = taken (meshCount o rs) (w .vertices) (sym n) }

@@ -1,20 +1,16 @@
--- All runs of a mesh. None has more points than there are verbs; what all vertices of a list have, and how they follow each other, is read off by their number; and so no advancement falls
--- along a run's own vertices, and its arcs' are h long: read from its first vertex on, in the list as the call left it. Assumes nothing.
+-- All runs of a mesh. What all vertices of a list have, and how they follow each other, is read off by their number; and so no advancement falls along a run's own vertices, and its arcs'
+-- are h long: read from its first vertex on, in the list as the call left it. Assumes nothing.
 use mathlib.Core.Path.{_≡_, sym, ap, _∙_, subst}
 use Prim.Native.Nat.{ℕ, zero, suc, _+_, _-_, _≤_, _<_}
-use mathlib.Core.Bool.{Bool, true, false}
 use mathlib.Core.List.{List, [], _∷_, _++_}
 use native.Mathlib.Nat.{add-assoc}
 use native.Mathlib.Omega.{arith}
-use lib.Dec.{eqb}
 use lib.Ieee.{Float}
-use lib.ListN.{length, take, drop, getD, length-append, List·getD-append}
+use lib.ListN.{length, getD, length-append, List·getD-append}
 use lib.Seq.{getD-append-add}
-use Rattle.plane.specs.Normal.{pick}
 use Rattle.endpoint.specs.declared.Endpoint.{Endpoint}
 use Rattle.options.specs.declared.Stroke.{Stroke}
-use Rattle.path.specs.Runs.{Run, runsFrom}
-use Rattle.path.specs.Verbs.{endClosed, names}
+use Rattle.path.specs.Runs.{Run}
 use Rattle.lists.specs.All.{All}
 use Rattle.lists.proofs.All.{all-append}
 use Rattle.pieces.specs.Piece.{Vertex}
@@ -38,25 +34,6 @@ use Rattle.reach.proofs.Mesh.{Spelt, blank}
 pub at-most : {z : Float} {k : ℕ} → Bounded z k → AtMost k z
 unfolding one
 at-most b = record { down = b .s; units = b .size; value = b .value; most = b .within }
-
--- ---- no run has more points than there are verbs
-abbrev pub Few : ℕ → Run Endpoint → Type 0
-Few n r = length (r .points) < n
-
-take-few : (n : ℕ) (ps : List Endpoint) → length (take n ps) ≤ n
-take-few zero ps = omega arith
-take-few (suc n) [] = omega arith
-take-few (suc n) (p ∷ ps) = omega (arith, take-few n ps)
-
-pub runs-few : (m n : ℕ) (vs : List ℕ) (ps : List Endpoint) → n + length vs ≤ m → All (Few m) (runsFrom n vs ps)
-unfolding runsFrom
-runs-few m n [] ps h = tt
-runs-few m n (v ∷ vs) ps h = go (names v) (runs-few m (n + 1) vs ps (omega arith)) (runs-few m 0 vs (drop n ps) (omega arith))
-  where
-    go : (t : Bool) → All (Few m) (runsFrom (n + 1) vs ps) → All (Few m) (runsFrom 0 vs (drop n ps))
-        → All (Few m) (pick t (runsFrom (n + 1) vs ps) (record { closed = eqb v endClosed; points = take n ps } ∷ runsFrom 0 vs (drop n ps)))
-    go true a b = a
-    go false a b = (omega (arith, take-few n ps), b)
 
 -- ---- a property of all vertices of a list, by their number
 pub all-at : {A : Type 0} (P : A → Type 0) (xs : List A) (d : A) (i : ℕ) → All P xs → i < length xs → P (getD xs i d)

@@ -4,6 +4,7 @@ use Prim.Native.Nat.{ℕ, _*_, _≤_, _<_}
 use native.Mathlib.Nat.{mul-pos, mul-le-mul-right}
 use native.Mathlib.Omega.{arith}
 use mathlib.Core.Bool.{false}
+use mathlib.Core.List.{List}
 use lib.Dec.{T, lit<}
 use lib.Ieee.{Float, binary32, mul, le, ofBits}
 use lib.Ieee.Fits.{and-l, and-r}
@@ -94,5 +95,5 @@ prepared-wide : (o : Options) → T (widthIn (o .width)) → Wide (preparedOf o)
 unfolding preparedOf
 prepared-wide o t = let W = width-halved (o .width) t in record { half = W; clip = clip-part (lineCapOf (o .cap)) W }
 
-pub wide : (options : Options) (o : Stroke) → strokeOf options ≡ accepting o → Wide o
-wide options o e = let a = accepted options o e in subst Wide (a .1) (prepared-wide options (width-in options (a .0)))
+pub wide : (options : Options) (ds : List Float) (o : Stroke) → strokeOf options ds ≡ accepting o → Wide o
+wide options ds o e = let a = accepted options ds o e in subst Wide (a .prepared) (prepared-wide options (width-in options (a .within)))

@@ -16,7 +16,7 @@ use Rattle.options.specs.declared.Stroke.{Stroke}
 use Rattle.path.specs.Runs.{Run}
 use Rattle.pieces.specs.Piece.{Lists}
 use Rattle.run.specs.Run.{shapeCount}
-use Rattle.runs.specs.Runs.{runsOf, drawnOf}
+use Rattle.runs.specs.Runs.{pathRuns, drawnOf}
 use Rattle.mesh.specs.Mesh.{Outcome, outcomeOf}
 use Rattle.reach.specs.Reach.{floatAt, baseCount}
 
@@ -40,7 +40,7 @@ pub record AboutCentre (h x y m n : Float) : Type 0 where
   pub y-is : y ≡ centre .y ⊕ n ⊗ h
   pub long : HalfWidthLong h (m ⊗ h) (n ⊗ h)
 
--- run by run, of the vertices that stand behind a run's own
+-- run by run, cut or not, of the vertices that stand behind a run's own
 abbrev pub AllLong : Outcome → Stroke → ℕ → List (Run Endpoint) → Type 0
 AllLong out o base [] = Unit {0}
 AllLong out o base (r ∷ rs) =
@@ -48,8 +48,9 @@ AllLong out o base (r ∷ rs) =
     ((i : ℕ) → baseCount s ≤ i → i < shapeCount s → let j = base + i in AboutCentre (o .«half_width») (floatAt out j 0) (floatAt out j 1) (floatAt out j 2) (floatAt out j 3))
     × AllLong out o (base + shapeCount s) rs
 
--- whatever is lent, where the call answers 0
+-- whatever is lent, and whatever lengths the dashes have, where the call answers 0
 abbrev pub ArcsLong : Type 0
 ArcsLong =
-    (verbs : List ℕ) (coords : List Float) (options : Options) (l : Lists) → let out = outcomeOf verbs coords options l in
-    out .answer .number ≡ numberOf accepted → AllLong out (strokeOf options .stroke) 0 (runsOf verbs coords)
+    (verbs : List ℕ) (coords : List Float) (options : Options) (ds : List Float) (l : Lists) → let out = outcomeOf verbs coords options ds l in
+    let o = strokeOf options ds .stroke in
+    out .answer .number ≡ numberOf accepted → AllLong out o 0 (pathRuns o ds verbs coords)

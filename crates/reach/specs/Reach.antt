@@ -1,5 +1,5 @@
 -- W-214: "Prove that with Miter, Bevel or Round joins, any cap and any accepted path, every x and y written is finite and at most 4,194,304 in size, stated over whole numbers with each
--- rounding counted." `Asked` is this sentence of the mesh call's own vertex list after the call; that it holds is proofs/Reach.antt. Assumes nothing.
+-- rounding counted." `Asked` is this sentence of the mesh call's own vertex list after the call, with any dashes or none (W-213); that it holds is proofs/Reach.antt. Assumes nothing.
 use mathlib.Core.Path.{_≡_}
 use Prim.Native.Nat.{ℕ, _+_, _*_, _^_, _≤_, _<_}
 use mathlib.Core.Bool.{Bool, false}
@@ -17,7 +17,7 @@ use Rattle.pieces.specs.Piece.{Lists}
 use Rattle.joints.specs.Joint.{jointsOf}
 use Rattle.strip.specs.Joint.{vertexCount}
 use Rattle.run.specs.Run.{Shape, nothing, emptyCap, along, roundCap, roundAlong, shapeCount}
-use Rattle.runs.specs.Runs.{runsOf, drawnOf}
+use Rattle.runs.specs.Runs.{pathRuns, drawnOf}
 use Rattle.mesh.specs.Mesh.{Outcome, outcomeOf}
 
 -- z is finite, and at most k in size: as every finite f32 it is a whole number of units of 2 ^ -149, up or down, and k is k * 2 ^ 149 of them
@@ -45,10 +45,10 @@ AllReached out place normal = (i : ℕ) → i < out .answer .vertices → Reache
 abbrev pub leftOut : ℕ
 leftOut = 1
 
--- whatever is lent, where the call answers 0
+-- whatever is lent, and whatever lengths the dashes have, where the call answers 0
 abbrev pub Within : ℕ → ℕ → Type 0
 Within place normal =
-    (verbs : List ℕ) (coords : List Float) (options : Options) (l : Lists) → let out = outcomeOf verbs coords options l in
+    (verbs : List ℕ) (coords : List Float) (options : Options) (ds : List Float) (l : Lists) → let out = outcomeOf verbs coords options ds l in
     out .answer .number ≡ numberOf accepted → (options .«line_join» ≡ leftOut → ⊥) → AllReached out place normal
 
 -- what was asked for, and what is proved: 1,892,352 is 32,768 + 227 * 8,192, a coordinate and the longest normal times the largest half width
@@ -74,7 +74,7 @@ baseCount (along js) = vertexCount js
 baseCount (roundCap o p) = 4
 baseCount (roundAlong closed o p q ks) = vertexCount (jointsOf closed o (p ∷ q ∷ ks))
 
--- run by run, from the run's first vertex on
+-- run by run, cut or not, from the run's first vertex on
 abbrev pub NoneFalls : Outcome → Stroke → ℕ → List (Run Endpoint) → Type 0
 NoneFalls out o base [] = Unit {0}
 NoneFalls out o base (r ∷ rs) =
@@ -82,5 +82,6 @@ NoneFalls out o base (r ∷ rs) =
 
 abbrev pub Advances : Type 0
 Advances =
-    (verbs : List ℕ) (coords : List Float) (options : Options) (l : Lists) → let out = outcomeOf verbs coords options l in
-    out .answer .number ≡ numberOf accepted → ((i : ℕ) → i < out .answer .vertices → AtMost (2 ^ 33) (floatAt out i 4)) × NoneFalls out (strokeOf options .stroke) 0 (runsOf verbs coords)
+    (verbs : List ℕ) (coords : List Float) (options : Options) (ds : List Float) (l : Lists) → let out = outcomeOf verbs coords options ds l in
+    let o = strokeOf options ds .stroke in
+    out .answer .number ≡ numberOf accepted → ((i : ℕ) → i < out .answer .vertices → AtMost (2 ^ 33) (floatAt out i 4)) × NoneFalls out o 0 (pathRuns o ds verbs coords)
