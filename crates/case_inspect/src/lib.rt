@@ -1,7 +1,7 @@
 // The answers to `check` and `attached` lines: `check COUNT LIST`, answered `check NUMBER PLACE`, and so the other.
-mod lists;
+mod index_lists;
 
-use crate::lists::read_list;
+use crate::index_lists::read_list;
 use inspect::check;
 use inspect::check_attached;
 use lines::words::Place;

@@ -1,4 +1,5 @@
-// `measure WIDTH LIMIT JOIN CAP MERGE DETAIL VERBS COORDS`, answered `measure NUMBER PLACE VERTICES TRIANGLES`.
+// `measure WIDTH LIMIT JOIN CAP MERGE DETAIL OFFSET DASHES VERBS COORDS`, answered `measure NUMBER PLACE VERTICES TRIANGLES`.
+use case_mesh::front::DASH_ROOM;
 use case_mesh::front::read_options;
 use case_mesh::path_words::COORD_ROOM;
 use case_mesh::path_words::VERB_ROOM;
@@ -19,7 +20,8 @@ use printing::words::number;
 pub fn answer(line: &[u8], place: Place, out: &mut Buffer, p: Printed) -> Printed {
     let mut verbs = [0u8; VERB_ROOM];
     let mut coords = [0.0f32; COORD_ROOM];
-    let o = read_options(line, place);
+    let mut lengths = [0.0f32; DASH_ROOM];
+    let o = read_options(line, place, &mut lengths);
     let after_options = o.rest;
     let path = read_path(line, after_options, &mut verbs, &mut coords);
     let rest = path.rest;
@@ -28,8 +30,9 @@ pub fn answer(line: &[u8], place: Place, out: &mut Buffer, p: Printed) -> Printe
     }
     let n = path.verbs;
     let m = path.coords;
+    let k = o.dashes;
     let options = o.options;
-    answer_measure(out, p, options, &verbs[..n], &coords[..m])
+    answer_measure(out, p, options, &verbs[..n], &coords[..m], &lengths[..k])
 }
 
 fn answer_measure(
@@ -38,8 +41,9 @@ fn answer_measure(
     options: Options,
     verbs: &[u8],
     coords: &[f32],
+    lengths: &[f32],
 ) -> Printed {
-    let a = measured_answer_of(measure(verbs, coords, options));
+    let a = measured_answer_of(measure(verbs, coords, options, lengths));
     let headed = head(out, p, b"measure", a.number, a.place as u64);
     let with_vertices = number(out, headed, a.vertices as u64);
     let with_triangles = number(out, with_vertices, a.triangles as u64);

@@ -1,5 +1,6 @@
-// `part WIDTH LIMIT JOIN CAP MERGE DETAIL RUN VERTEXLEN VERBS COORDS`, answered `part NUMBER PLACE START LIST`.
+// `part WIDTH LIMIT JOIN CAP MERGE DETAIL OFFSET DASHES RUN VERTEXLEN VERBS COORDS`, answered `part NUMBER PLACE START LIST`.
 use case_answers::lent::fill_floats;
+use case_mesh::front::DASH_ROOM;
 use case_mesh::front::SOURCE_ROOM;
 use case_mesh::front::TRIANGLE_ROOM;
 use case_mesh::front::VERTEX_ROOM;
@@ -29,6 +30,7 @@ ghost use lib.ListN.{length};
 // What stands before the path, and the place after it: Lost where a word was out of form.
 struct Asked {
     options: Options,
+    dashes: usize,
     run: usize,
     floats: usize,
     rest: Place,
@@ -38,7 +40,8 @@ struct Asked {
 pub fn answer(line: &[u8], place: Place, out: &mut Buffer, p: Printed) -> Printed {
     let mut verbs = [0u8; VERB_ROOM];
     let mut coords = [0.0f32; COORD_ROOM];
-    let asked = read_asked(line, place);
+    let mut lengths = [0.0f32; DASH_ROOM];
+    let asked = read_asked(line, place, &mut lengths);
     let after_asked = asked.rest;
     let path = read_path(line, after_asked, &mut verbs, &mut coords);
     let rest = path.rest;
@@ -47,14 +50,16 @@ pub fn answer(line: &[u8], place: Place, out: &mut Buffer, p: Printed) -> Printe
     }
     let n = path.verbs;
     let m = path.coords;
-    answer_part(out, p, asked, &verbs[..n], &coords[..m])
+    let k = asked.dashes;
+    answer_part(out, p, asked, &verbs[..n], &coords[..m], &lengths[..k])
 }
 
-fn read_asked(line: &[u8], place: Place) -> Asked
-    ensures { λ r. ⌜ r .floats ≤ 81920 ⌝ }
+fn read_asked(line: &[u8], place: Place, lengths: &mut [f32]) -> Asked
+    ensures { λ r. ⌜ (r .dashes ≤ length (now (lengths .entry))) × (r .floats ≤ 81920) ⌝ }
 {
-    let o = read_options(line, place);
+    let o = read_options(line, place, lengths);
     let options = o.options;
+    let dashes = o.dashes;
     let after_options = o.rest;
     let k = read(line, after_options);
     let after_run = k.rest;
@@ -62,6 +67,7 @@ fn read_asked(line: &[u8], place: Place) -> Asked
     let rest = v.rest;
     Asked {
         options,
+        dashes,
         run: k.value as usize,
         floats: v.value as usize,
         rest,
@@ -69,7 +75,14 @@ fn read_asked(line: &[u8], place: Place) -> Asked
 }
 
 // The list is written by the mesh call, with room for the sources and triangles of the most vertices that it can hold.
-fn answer_part(out: &mut Buffer, p: Printed, asked: Asked, verbs: &[u8], coords: &[f32]) -> Printed
+fn answer_part(
+    out: &mut Buffer,
+    p: Printed,
+    asked: Asked,
+    verbs: &[u8],
+    coords: &[f32],
+    lengths: &[f32],
+) -> Printed
     requires { ⌜ asked .floats ≤ 81920 ⌝ }
 {
     let mut v = [0.0f32; VERTEX_ROOM];
@@ -84,6 +97,7 @@ fn answer_part(out: &mut Buffer, p: Printed, asked: Asked, verbs: &[u8], coords:
         asked.run,
         verbs,
         coords,
+        lengths,
         &mut v[..n],
         &mut src,
         &mut t,
@@ -97,6 +111,7 @@ fn answer_call(
     run: usize,
     verbs: &[u8],
     coords: &[f32],
+    lengths: &[f32],
     v: &mut [f32],
     src: &mut [u32],
     t: &mut [u32],
@@ -104,11 +119,20 @@ fn answer_call(
     requires { ⌜ length (now v) ≤ 81920 ⌝ }
 {
     fill_floats(v);
-    tessellate(verbs, coords, options, v, src, t);
-    let a = part_answer_of(find_run(verbs, coords, options, run, v.len()));
+    tessellate(verbs, coords, options, lengths, v, src, t);
+    let a = part_answer_of(find_run(verbs, coords, options, lengths, run, v.len()));
     let mut told = 0;
     let mut place = 0;
-    let part = run_vertices(verbs, coords, options, run, v, &mut told, &mut place);
+    let part = run_vertices(
+        verbs,
+        coords,
+        options,
+        lengths,
+        run,
+        v,
+        &mut told,
+        &mut place,
+    );
     answered(out, p, told, place, a.start, part)
 }
 

@@ -24,6 +24,7 @@ pub fn answer_mesh(
     front: Front,
     verbs: &[u8],
     coords: &[f32],
+    lengths: &[f32],
 ) -> Printed
     requires { ⌜ (front .floats ≤ 81920) × (front .sources ≤ 49152) × (front .numbers ≤ 49152) ⌝ }
 {
@@ -40,6 +41,7 @@ pub fn answer_mesh(
         options,
         verbs,
         coords,
+        lengths,
         &mut v[..n],
         &mut s[..k],
         &mut t[..m],
@@ -52,6 +54,7 @@ fn answer_call(
     options: Options,
     verbs: &[u8],
     coords: &[f32],
+    lengths: &[f32],
     v: &mut [f32],
     s: &mut [u32],
     t: &mut [u32],
@@ -61,7 +64,7 @@ fn answer_call(
     fill_floats(v);
     fill_numbers(s);
     fill_numbers(t);
-    let a = mesh_answer_of(tessellate(verbs, coords, options, v, s, t));
+    let a = mesh_answer_of(tessellate(verbs, coords, options, lengths, v, s, t));
     answered(out, p, a, v, s, t)
 }
 

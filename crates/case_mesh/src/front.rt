@@ -1,9 +1,11 @@
-// `WIDTH LIMIT JOIN CAP MERGE DETAIL VERTEXLEN SOURCELEN TRIANGLELEN`: the words of a line before its path.
+// `WIDTH LIMIT JOIN CAP MERGE DETAIL OFFSET DASHES VERTEXLEN SOURCELEN TRIANGLELEN`: the words of a line before its path.
+use case_answers::float_lists::read_float_list;
 use lines::floats::read;
 use lines::numbers::read_up_to;
 use lines::words::Place;
 use options::Options;
 ghost use Prim.Native.Nat.{_≤_};
+ghost use lib.ListN.{length};
 
 // The longest lists that a line may ask for.
 pub const VERTEX_ROOM: usize = 81920;
@@ -12,9 +14,14 @@ pub const SOURCE_ROOM: usize = 49152;
 
 pub const TRIANGLE_ROOM: usize = 49152;
 
+// A list of lengths is in form however long it is, and one takes nine bytes of a line, with the space before it: this is more than a line can hold.
+pub const DASH_ROOM: usize = 32768;
+
 // What stood there, and the place after it: Lost where a word was out of form.
 pub struct Front {
     pub options: Options,
+    // How many lengths of dashes and gaps.
+    pub dashes: usize,
     // The lengths of the lists to lend.
     pub floats: usize,
     pub sources: usize,
@@ -24,14 +31,17 @@ pub struct Front {
 
 pub struct OptionsRead {
     pub options: Options,
+    pub dashes: usize,
     pub rest: Place,
 }
 
-pub fn read_front(line: &[u8], place: Place) -> Front
-    ensures { λ r. ⌜ (r .floats ≤ 81920) × (r .sources ≤ 49152) × (r .numbers ≤ 49152) ⌝ }
+// The lengths of dashes and gaps are put over the start of the lent list.
+pub fn read_front(line: &[u8], place: Place, lengths: &mut [f32]) -> Front
+    ensures { λ r. ⌜ (r .dashes ≤ length (now (lengths .entry))) × (r .floats ≤ 81920) × (r .sources ≤ 49152) × (r .numbers ≤ 49152) ⌝ }
 {
-    let o = read_options(line, place);
+    let o = read_options(line, place, lengths);
     let options = o.options;
+    let dashes = o.dashes;
     let after_options = o.rest;
     let v = read_up_to(line, after_options, VERTEX_ROOM as u64);
     let after_v = v.rest;
@@ -41,6 +51,7 @@ pub fn read_front(line: &[u8], place: Place) -> Front
     let rest = t.rest;
     Front {
         options,
+        dashes,
         floats: v.value as usize,
         sources: s.value as usize,
         numbers: t.value as usize,
@@ -49,7 +60,9 @@ pub fn read_front(line: &[u8], place: Place) -> Front
 }
 
 // A join, a cap or a detail that the call refuses is in form, as far as it is a byte.
-pub fn read_options(line: &[u8], place: Place) -> OptionsRead {
+pub fn read_options(line: &[u8], place: Place, lengths: &mut [f32]) -> OptionsRead
+    ensures { λ r. ⌜ r .dashes ≤ length (now (lengths .entry)) ⌝ }
+{
     let width = read(line, place);
     let after_width = width.rest;
     let limit = read(line, after_width);
@@ -61,7 +74,11 @@ pub fn read_options(line: &[u8], place: Place) -> OptionsRead {
     let merge = read(line, after_cap);
     let after_merge = merge.rest;
     let detail = read_up_to(line, after_merge, 255);
-    let rest = detail.rest;
+    let after_detail = detail.rest;
+    let offset = read(line, after_detail);
+    let after_offset = offset.rest;
+    let dashes = read_float_list(line, after_offset, lengths);
+    let rest = dashes.rest;
     OptionsRead {
         options: Options {
             width: width.value,
@@ -70,7 +87,9 @@ pub fn read_options(line: &[u8], place: Place) -> OptionsRead {
             cap: cap.value as u32,
             merge_range: merge.value,
             detail: detail.value as u32,
+            offset: offset.value,
         },
+        dashes: dashes.count,
         rest,
     }
 }

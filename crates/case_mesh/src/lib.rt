@@ -1,10 +1,11 @@
-// The answer to `mesh WIDTH LIMIT JOIN CAP MERGE DETAIL VERTEXLEN SOURCELEN TRIANGLELEN VERBS COORDS`: `mesh NUMBER PLACE VERTICES TRIANGLES VERTEXLIST
-// SOURCELIST TRIANGLELIST`.
+// The answer to `mesh WIDTH LIMIT JOIN CAP MERGE DETAIL OFFSET DASHES VERTEXLEN SOURCELEN TRIANGLELEN VERBS COORDS`: `mesh NUMBER PLACE VERTICES TRIANGLES
+// VERTEXLIST SOURCELIST TRIANGLELIST`.
 mod call;
 pub mod front;
 pub mod path_words;
 
 use crate::call::answer_mesh;
+use crate::front::DASH_ROOM;
 use crate::front::read_front;
 use crate::path_words::COORD_ROOM;
 use crate::path_words::VERB_ROOM;
@@ -19,7 +20,8 @@ use printing::replies::bad_line;
 pub fn answer(line: &[u8], place: Place, out: &mut Buffer, p: Printed) -> Printed {
     let mut verbs = [0u8; VERB_ROOM];
     let mut coords = [0.0f32; COORD_ROOM];
-    let front = read_front(line, place);
+    let mut lengths = [0.0f32; DASH_ROOM];
+    let front = read_front(line, place, &mut lengths);
     let after_front = front.rest;
     let path = read_path(line, after_front, &mut verbs, &mut coords);
     let rest = path.rest;
@@ -28,5 +30,6 @@ pub fn answer(line: &[u8], place: Place, out: &mut Buffer, p: Printed) -> Printe
     }
     let n = path.verbs;
     let m = path.coords;
-    answer_mesh(out, p, front, &verbs[..n], &coords[..m])
+    let k = front.dashes;
+    answer_mesh(out, p, front, &verbs[..n], &coords[..m], &lengths[..k])
 }

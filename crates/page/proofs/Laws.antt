@@ -2,7 +2,7 @@
 use Prim.Native.Nat.{ℕ, _*_, _/_, _≤_, _<_}
 use mathlib.Core.Path.{_≡_}
 use mathlib.Core.Bool.{true, false}
-use mathlib.Core.List.{List}
+use mathlib.Core.List.{List, []}
 use native.Mathlib.Nat.{lt-of-lt-of-le}
 use native.Mathlib.Omega.{arith}
 use lib.Dec.{eqb, lit≤}
@@ -22,10 +22,10 @@ use Rattle.page.proofs.Rooms.{mesh-roomy, read-roomy}
 use Rattle.page.proofs.Named.{below-zeros, below-at, mesh-named}
 
 -- ---- what is counted fits into the program's rooms
-pub mesh-within : (vs : List ℕ) (cs : List Float) {o : mesh.Outcome} → o ≡ mesh.outcomeOf vs cs optionsOf (lent vertexRoom sourceRoom triangleRoom)
+pub mesh-within : (vs : List ℕ) (cs : List Float) {o : mesh.Outcome} → o ≡ mesh.outcomeOf vs cs optionsOf [] (lent vertexRoom sourceRoom triangleRoom)
     → {a : MeshAnswer} → a ≡ o .answer → a .number ≡ 0 → (a .vertices ≤ 1024) × (a .triangles ≤ 1536)
 mesh-within vs cs {o} h {a} e n =
-    let r = (rw (← h, ← e) at (mesh-roomy (lent vertexRoom sourceRoom triangleRoom) vs cs optionsOf)) n in
+    let r = (rw (← h, ← e) at (mesh-roomy (lent vertexRoom sourceRoom triangleRoom) vs cs optionsOf [])) n in
     (omega (arith, r .0, smaller-both (length vertexRoom / 5) (length sourceRoom) .0, length-replicate (5 * 1024) (ofBits binary32 0)), omega (arith, r .1, length-replicate {A = ℕ} (3 * 1536) 0))
 
 pub read-within : {s : List ℕ} {o : reader.Outcome} → Reads s verbRoom coordRoom o → {a : ReadAnswer} → a ≡ o .answer → a .number ≡ 0
@@ -34,11 +34,11 @@ read-within {s} {o} h {a} e n =
     let r = (rw (← e) at (read-roomy s verbRoom coordRoom o h)) n in
     (omega (arith, r .0, length-replicate {A = ℕ} 1024 0), omega (arith, r .1, length-replicate 2048 (ofBits binary32 0)))
 
-pub mesh-short : (vs : List ℕ) (cs : List Float) {o : mesh.Outcome} → o ≡ mesh.outcomeOf vs cs optionsOf (lent vertexRoom sourceRoom triangleRoom)
+pub mesh-short : (vs : List ℕ) (cs : List Float) {o : mesh.Outcome} → o ≡ mesh.outcomeOf vs cs optionsOf [] (lent vertexRoom sourceRoom triangleRoom)
     → {a : MeshAnswer} → a ≡ o .answer → a .vertices ≤ 1024 → AreShort (o .lists .triangles)
 mesh-short vs cs {o} h {a} e n i =
     let few : o .answer .vertices ≤ 1024 = rw (← e) n in
-    let named = rw (← h) at (mesh-named 1024 (lent vertexRoom sourceRoom triangleRoom) (below-zeros 1023 (3 * 1536)) vs cs optionsOf) in
+    let named = rw (← h) at (mesh-named 1024 (lent vertexRoom sourceRoom triangleRoom) (below-zeros 1023 (3 * 1536)) vs cs optionsOf []) in
     lt-of-lt-of-le (below-at 1023 (o .lists .triangles) (named few) i) (lit≤ tt)
 
 -- what is put, and where
@@ -67,6 +67,6 @@ module _ {s xs ys : List ℕ} {i : ℕ} {o : reader.Outcome} (few : length s ≤
     read-refused n p = page-of (rw (← e, n) p)
 
     pub read-stroked : eqb (a .number) 0 ≡ true
-        → Puts (meshPageOf (mesh.outcomeOf (take (a .verbs) (o .verbs)) (take (a .coords) (o .coords)) optionsOf (lent vertexRoom sourceRoom triangleRoom))) 0 xs i ys → PutsPage s xs i ys
+        → Puts (meshPageOf (mesh.outcomeOf (take (a .verbs) (o .verbs)) (take (a .coords) (o .coords)) optionsOf [] (lent vertexRoom sourceRoom triangleRoom))) 0 xs i ys → PutsPage s xs i ys
     unfolding readPageOf
     read-stroked n p = page-of (rw (← e, n) p)

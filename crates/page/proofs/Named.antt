@@ -13,12 +13,12 @@ use Rattle.lists.specs.Over.{over, flat}
 use Rattle.options.specs.Options.{strokeOf}
 use Rattle.options.specs.declared.Options.{Options}
 use Rattle.options.specs.declared.Stroke.{Stroke}
-use Rattle.path.specs.Path.{checkedOf}
+use Rattle.cuts.specs.Checked.{cutCheckedOf}
 use Rattle.path.specs.Runs.{Run}
 use Rattle.pieces.specs.Piece.{Lists, flatT}
 use Rattle.triangles.specs.Facts.{AllOwn}
 use Rattle.triangles.specs.Tri.{Tri}
-use Rattle.runs.specs.Runs.{runsOf, meshCount, meshTriangles}
+use Rattle.runs.specs.Runs.{pathRuns, meshCount, meshTriangles}
 use Rattle.mesh.specs.Answer.{isMesh, withCounts, withPlace}
 use Rattle.mesh.specs.Mesh.{Outcome, refused, drawn, roomFor, acceptedOf, onceAccepted, strokedOf, outcomeOf, vertexPlaces}
 use Rattle.mesh.proofs.Numbers.{all-own}
@@ -77,9 +77,11 @@ module _ (k : ℕ) (l : Lists) (zeros : AllBelow k (l .triangles)) where
       by true = h
       by false = λ g. zeros
 
-  pub mesh-named : (vs : List ℕ) (cs : List Float) (o : Options) → Named (outcomeOf vs cs o l)
+  pub mesh-named : (vs : List ℕ) (cs : List Float) (o : Options) (ds : List Float) → Named (outcomeOf vs cs o ds l)
   unfolding outcomeOf strokedOf
-  mesh-named vs cs o =
-      let a = strokeOf o in
-      let b = checkedOf vs cs in
-      once-named (a .number) (a .place) (strokedOf l vs cs (a .stroke)) (once-named (b .number) (b .place) (acceptedOf l (a .stroke) (runsOf vs cs)) (accepted-named (a .stroke) (runsOf vs cs)))
+  mesh-named vs cs o ds =
+      let a = strokeOf o ds in
+      let p = a .stroke in
+      let b = cutCheckedOf (p .near) ds (p .offset) vs cs in
+      let rs = pathRuns p ds vs cs in
+      once-named (a .number) (a .place) (strokedOf l vs cs p ds) (once-named (b .number) (b .place) (acceptedOf l p rs) (accepted-named p rs))

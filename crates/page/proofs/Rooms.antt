@@ -10,12 +10,12 @@ use lib.Ieee.{Float}
 use lib.ListN.{length}
 use Rattle.endpoint.specs.declared.Endpoint.{Endpoint}
 use Rattle.options.specs.Options.{strokeOf}
-use Rattle.path.specs.Path.{checkedOf}
+use Rattle.cuts.specs.Checked.{cutCheckedOf}
 use Rattle.path.specs.Runs.{Run}
 use Rattle.path.specs.Limits.{verbLimit}
 use Rattle.options.specs.declared.Options.{Options}
 use Rattle.options.specs.declared.Stroke.{Stroke}
-use Rattle.runs.specs.Runs.{runsOf, meshCount, meshTriangles}
+use Rattle.runs.specs.Runs.{pathRuns, meshCount, meshTriangles}
 use Rattle.reader.specs.Outcome as reader
 use Rattle.reader.specs.Reads.{Reads, too-long, out-of-form, too-large, no-room, path, verbsIn, coordsIn}
 use Rattle.pieces.specs.Piece.{Lists}
@@ -56,12 +56,14 @@ module _ (l : Lists) where
       by true k = h
       by false k = λ e. absurd (false≢true (k e))
 
-  pub mesh-roomy : (vs : List ℕ) (cs : List Float) (o : Options) → Roomy (outcomeOf vs cs o l .answer)
+  pub mesh-roomy : (vs : List ℕ) (cs : List Float) (o : Options) (ds : List Float) → Roomy (outcomeOf vs cs o ds l .answer)
   unfolding outcomeOf strokedOf
-  mesh-roomy vs cs o =
-      let a = strokeOf o in
-      let b = checkedOf vs cs in
-      once-roomy (a .number) (a .place) (strokedOf l vs cs (a .stroke)) (once-roomy (b .number) (b .place) (acceptedOf l (a .stroke) (runsOf vs cs)) (accepted-roomy (a .stroke) (runsOf vs cs)))
+  mesh-roomy vs cs o ds =
+      let a = strokeOf o ds in
+      let p = a .stroke in
+      let b = cutCheckedOf (p .near) ds (p .offset) vs cs in
+      let rs = pathRuns p ds vs cs in
+      once-roomy (a .number) (a .place) (strokedOf l vs cs p ds) (once-roomy (b .number) (b .place) (acceptedOf l p rs) (accepted-roomy p rs))
 
 -- ---- the reader
 pub read-roomy : (s v : List ℕ) (c : List Float) (o : reader.Outcome) → Reads s v c o

@@ -20,7 +20,7 @@ use Rattle.mesh.specs.Mesh as mesh
 
 -- "width 2, limit 4, Miter, Butt"; its merge range is document 01's 1/128
 abbrev pub optionsOf : Options
-optionsOf = record { width = ofBits binary32 0x40000000; «miter_limit» = ofBits binary32 0x40800000; «line_join» = 0; cap = 0; «merge_range» = ofBits binary32 0x3c000000; detail = 0 }
+optionsOf = record { width = ofBits binary32 0x40000000; «miter_limit» = ofBits binary32 0x40800000; «line_join» = 0; cap = 0; «merge_range» = ofBits binary32 0x3c000000; detail = 0; offset = ofBits binary32 0 }
 
 -- "the program keeps its buffers and gives 8 above 16,384 bytes" (W-205)
 abbrev pub textRoom : ℕ
@@ -88,7 +88,7 @@ meshPageOf o =
 unfoldable pub readPageOf : reader.Outcome → List ℕ
 readPageOf o =
     let a = o .answer in
-    cond (eqb (a .number) (numberOf accepted)) (meshPageOf (mesh.outcomeOf (take (a .verbs) (o .verbs)) (take (a .coords) (o .coords)) optionsOf (lent vertexRoom sourceRoom triangleRoom)))
+    cond (eqb (a .number) (numberOf accepted)) (meshPageOf (mesh.outcomeOf (take (a .verbs) (o .verbs)) (take (a .coords) (o .coords)) optionsOf [] (lent vertexRoom sourceRoom triangleRoom)))
     (refusedPage (a .number) (a .place))
 
 -- The page of the bytes s. The reader allows one outcome, so there is one page: `one-page` of proofs/Unique.antt.

@@ -10,6 +10,7 @@ use options::Options;
 use reader::answer::read_answer_of;
 use reader::read;
 use refusals::LONG_TEXT;
+ghost use mathlib.Core.List.{[]};
 ghost use mathlib.Core.Path.{_≡_};
 ghost use Prim.Native.Nat.{_≤_};
 ghost use Rattle.lines.specs.Placed.{Puts};
@@ -59,7 +60,7 @@ pub fn put_page(text: &[u8], out: &mut Page) -> usize
 
 // The page of a path.
 fn put_stroked(verbs: &[u8], coords: &[f32], out: &mut Page) -> usize
-    ensures { λ r. ⌜ Puts (meshPageOf (mesh.outcomeOf (now (verbs .entry)) (now (coords .entry)) optionsOf (lent vertexRoom sourceRoom triangleRoom))) 0 (now (out .entry)) r (now (out .exit)) ⌝ }
+    ensures { λ r. ⌜ Puts (meshPageOf (mesh.outcomeOf (now (verbs .entry)) (now (coords .entry)) optionsOf [] (lent vertexRoom sourceRoom triangleRoom))) 0 (now (out .entry)) r (now (out .exit)) ⌝ }
     ensures { λ r. ⌜ r ≤ 65536 ⌝ }
 {
     let mut vertices = [0.0f32; VERTEX_ROOM];
@@ -69,6 +70,7 @@ fn put_stroked(verbs: &[u8], coords: &[f32], out: &mut Page) -> usize
         verbs,
         coords,
         options(),
+        &[],
         &mut vertices,
         &mut sources,
         &mut triangles,
@@ -90,5 +92,6 @@ fn options() -> Options
         cap: 0,
         merge_range: 0.0078125,
         detail: 0,
+        offset: 0.0,
     }
 }

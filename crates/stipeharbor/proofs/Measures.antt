@@ -12,22 +12,22 @@ use Rattle.measure.specs.Part.{partOf}
 use Rattle.measure.specs.declared.answer.PartAnswer.{PartAnswer}
 use Rattle.stipeharbor.specs.Measuring.{Told, measureOutOf, partOutOf}
 
-pub is-measured : (verbs : List ℕ) (coords : List Float) (options : Options) (answer : List ℕ) {a : MeshAnswer} → a ≡ measureOf verbs coords options
+pub is-measured : (verbs : List ℕ) (coords : List Float) (options : Options) (dashes : List Float) (answer : List ℕ) {a : MeshAnswer} → a ≡ measureOf verbs coords options dashes
     → {answer' : List ℕ} → answer' ≡ over (a .place ∷ a .vertices ∷ a .triangles ∷ []) answer
-    → record { number = a .number; answer = answer' } ≡ measureOutOf verbs coords options answer
+    → record { number = a .number; answer = answer' } ≡ measureOutOf verbs coords options dashes answer
 unfolding measureOutOf
-is-measured verbs coords options answer e w = rw (w, e)
+is-measured verbs coords options dashes answer e w = rw (w, e)
 
-pub is-part : (verbs : List ℕ) (coords : List Float) (options : Options) (run : ℕ) (v : List Float) (answer : List ℕ) {a : PartAnswer} → a ≡ partOf verbs coords options run (length v)
+pub is-part : (verbs : List ℕ) (coords : List Float) (options : Options) (dashes : List Float) (run : ℕ) (v : List Float) (answer : List ℕ) {a : PartAnswer} → a ≡ partOf verbs coords options dashes run (length v)
     → {answer' : List ℕ} → answer' ≡ over (a .place ∷ a .start ∷ a .length ∷ []) answer
-    → record { number = a .number; answer = answer' } ≡ partOutOf verbs coords options run v answer
+    → record { number = a .number; answer = answer' } ≡ partOutOf verbs coords options dashes run v answer
 unfolding partOutOf
-is-part verbs coords options run v answer e w = rw (w, e)
+is-part verbs coords options dashes run v answer e w = rw (w, e)
 
-pub measure-out-one : (verbs : List ℕ) (coords : List Float) (options : Options) (answer : List ℕ) (a b : Told)
-    → a ≡ measureOutOf verbs coords options answer → b ≡ measureOutOf verbs coords options answer → a ≡ b
-measure-out-one verbs coords options answer a b h k = h ∙ sym k
+pub measure-out-one : (verbs : List ℕ) (coords : List Float) (options : Options) (dashes : List Float) (answer : List ℕ) (a b : Told)
+    → a ≡ measureOutOf verbs coords options dashes answer → b ≡ measureOutOf verbs coords options dashes answer → a ≡ b
+measure-out-one verbs coords options dashes answer a b h k = h ∙ sym k
 
-pub part-out-one : (verbs : List ℕ) (coords : List Float) (options : Options) (run : ℕ) (v : List Float) (answer : List ℕ) (a b : Told)
-    → a ≡ partOutOf verbs coords options run v answer → b ≡ partOutOf verbs coords options run v answer → a ≡ b
-part-out-one verbs coords options run v answer a b h k = h ∙ sym k
+pub part-out-one : (verbs : List ℕ) (coords : List Float) (options : Options) (dashes : List Float) (run : ℕ) (v : List Float) (answer : List ℕ) (a b : Told)
+    → a ≡ partOutOf verbs coords options dashes run v answer → b ≡ partOutOf verbs coords options dashes run v answer → a ≡ b
+part-out-one verbs coords options dashes run v answer a b h k = h ∙ sym k

@@ -26,11 +26,12 @@ use Rattle.widths.specs.Widths.{Outcome}
 use Rattle.widths.specs.declared.answer.ListedAnswer.{ListedAnswer}
 use Rattle.stipeharbor.specs.Calls.{tessellateOutOf, readOutOf, ReadsOut, rootOutOf, RootsOut, normalOutOf, stlWriteOutOf, stlReadOutOf, listOutOf, checkOutOf}
 
-pub is-tessellated : (verbs : List ℕ) (coords : List Float) (options : Options) (l : Lists) (answer : List ℕ) {l' : Lists} {r : MeshAnswer} → record { answer = r; lists = l' } ≡ outcomeOf verbs coords options l
+pub is-tessellated : (verbs : List ℕ) (coords : List Float) (options : Options) (dashes : List Float) (l : Lists) (answer : List ℕ)
+    → {l' : Lists} {r : MeshAnswer} → record { answer = r; lists = l' } ≡ outcomeOf verbs coords options dashes l
     → {a : MeshAnswer} → a ≡ r → {answer' : List ℕ} → answer' ≡ over (a .place ∷ a .vertices ∷ a .triangles ∷ []) answer
-    → record { number = a .number; answer = answer'; lists = l' } ≡ tessellateOutOf verbs coords options l answer
+    → record { number = a .number; answer = answer'; lists = l' } ≡ tessellateOutOf verbs coords options dashes l answer
 unfolding tessellateOutOf
-is-tessellated verbs coords options l answer h e w = rw (← h, ← e, w)
+is-tessellated verbs coords options dashes l answer h e w = rw (← h, ← e, w)
 
 pub reads-out : (text verbs : List ℕ) (coords : List Float) (answer : List ℕ) (o : reader.Outcome) → Reads text verbs coords o
     → (a : ReadAnswer) → a ≡ o .answer

@@ -14,9 +14,9 @@ use Rattle.radio_words.specs.Calls.{Started, startOf, Taken, takeOf}
 use Rattle.stipeharbor.specs.Calls.{Tessellated, tessellateOutOf, ReadOut, readOutOf, ReadsOut, FloatsOut, rootOutOf, RootsOut, normalOutOf, StlWritten, stlWriteOutOf, StlCorners, stlReadOutOf, ListOut, widenOutOf, narrowOutOf, CheckOut, checkOutOf}
 use Rattle.stipeharbor.specs.Fragments.{CloseOut, closeOutOf}
 
-pub tessellate-out-one : (verbs : List ℕ) (coords : List Float) (options : Options) (l : Lists) (answer : List ℕ) (a b : Tessellated)
-    → a ≡ tessellateOutOf verbs coords options l answer → b ≡ tessellateOutOf verbs coords options l answer → a ≡ b
-tessellate-out-one verbs coords options l answer a b h k = h ∙ sym k
+pub tessellate-out-one : (verbs : List ℕ) (coords : List Float) (options : Options) (dashes : List Float) (l : Lists) (answer : List ℕ) (a b : Tessellated)
+    → a ≡ tessellateOutOf verbs coords options dashes l answer → b ≡ tessellateOutOf verbs coords options dashes l answer → a ≡ b
+tessellate-out-one verbs coords options dashes l answer a b h k = h ∙ sym k
 
 pub read-out-one : (text verbs : List ℕ) (coords : List Float) (answer : List ℕ) (a b : ReadOut) → ReadsOut text verbs coords answer a → ReadsOut text verbs coords answer b → a ≡ b
 read-out-one text verbs coords answer a b h k =

@@ -20,8 +20,9 @@ use Rattle.stl.specs.Write.{writeOf}
 use Rattle.widths.specs.Widths.{Outcome, widenOf, narrowOf}
 
 -- ---- stipeharbor_tessellate
-abbrev pub optionsOf : Float → Float → ℕ → ℕ → Float → ℕ → Options
-optionsOf width limit join cap merge detail = record { width = width; «miter_limit» = limit; «line_join» = join; cap = cap; «merge_range» = merge; detail = detail }
+abbrev pub optionsOf : Float → Float → ℕ → ℕ → Float → ℕ → Float → Options
+optionsOf width limit join cap merge detail offset =
+    record { width = width; «miter_limit» = limit; «line_join» = join; cap = cap; «merge_range» = merge; detail = detail; offset = offset }
 
 pub record Tessellated : Type 0 where
   pub number : ℕ
@@ -32,9 +33,9 @@ abbrev pub tessellated : ℕ → List ℕ → List Float → List ℕ → List �
 tessellated number answer v s t = record { number = number; answer = answer; lists = lent v s t }
 
 -- the mesh call's outcome: "place", then "both counts"
-unfoldable pub tessellateOutOf : List ℕ → List Float → Options → Lists → List ℕ → Tessellated
-tessellateOutOf verbs coords options l answer =
-    let o = outcomeOf verbs coords options l in
+unfoldable pub tessellateOutOf : List ℕ → List Float → Options → List Float → Lists → List ℕ → Tessellated
+tessellateOutOf verbs coords options dashes l answer =
+    let o = outcomeOf verbs coords options dashes l in
     let a = o .answer in
     record { number = a .number; answer = over (a .place ∷ a .vertices ∷ a .triangles ∷ []) answer; lists = o .lists }
 

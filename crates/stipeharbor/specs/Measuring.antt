@@ -13,13 +13,13 @@ pub record Told : Type 0 where
   pub answer : List ℕ
 
 -- "place", then "both counts"
-unfoldable pub measureOutOf : List ℕ → List Float → Options → List ℕ → Told
-measureOutOf verbs coords options answer =
-    let a = measureOf verbs coords options in
+unfoldable pub measureOutOf : List ℕ → List Float → Options → List Float → List ℕ → Told
+measureOutOf verbs coords options dashes answer =
+    let a = measureOf verbs coords options dashes in
     record { number = a .number; answer = over (a .place ∷ a .vertices ∷ a .triangles ∷ []) answer }
 
 -- the place, then where the part stands in the vertex list v
-unfoldable pub partOutOf : List ℕ → List Float → Options → ℕ → List Float → List ℕ → Told
-partOutOf verbs coords options run v answer =
-    let a = partOf verbs coords options run (length v) in
+unfoldable pub partOutOf : List ℕ → List Float → Options → List Float → ℕ → List Float → List ℕ → Told
+partOutOf verbs coords options dashes run v answer =
+    let a = partOf verbs coords options dashes run (length v) in
     record { number = a .number; answer = over (a .place ∷ a .start ∷ a .length ∷ []) answer }

@@ -45,12 +45,14 @@ pub extern "C" fn stipeharbor_tessellate(
     line_cap: u32,
     merge_range: f32,
     detail: u32,
+    dash_offset: f32,
+    dashes: &[f32],
     vertices: &mut [f32],
     sources: &mut [u32],
     triangles: &mut [Index],
     answer: &mut [usize],
 ) -> u32
-    ensures { λ r. ⌜ tessellated r (now (answer .exit)) (now (vertices .exit)) (now (sources .exit)) (now (triangles .exit)) ≡ tessellateOutOf (now (verbs .entry)) (now (coords .entry)) (optionsOf width «miter_limit» «line_join» «line_cap» «merge_range» detail) (lent (now (vertices .entry)) (now (sources .entry)) (now (triangles .entry))) (now (answer .entry)) ⌝ }
+    ensures { λ r. ⌜ tessellated r (now (answer .exit)) (now (vertices .exit)) (now (sources .exit)) (now (triangles .exit)) ≡ tessellateOutOf (now (verbs .entry)) (now (coords .entry)) (optionsOf width «miter_limit» «line_join» «line_cap» «merge_range» detail «dash_offset») (now (dashes .entry)) (lent (now (vertices .entry)) (now (sources .entry)) (now (triangles .entry))) (now (answer .entry)) ⌝ }
 {
     let options = Options {
         width: width,
@@ -59,8 +61,17 @@ pub extern "C" fn stipeharbor_tessellate(
         cap: line_cap,
         merge_range: merge_range,
         detail: detail,
+        offset: dash_offset,
     };
-    let a = mesh_answer_of(tessellate(verbs, coords, options, vertices, sources, triangles));
+    let a = mesh_answer_of(tessellate(
+        verbs,
+        coords,
+        options,
+        dashes,
+        vertices,
+        sources,
+        triangles,
+    ));
     put_numbers(answer, a.place, a.vertices, a.triangles);
     a.number
 }

@@ -20,9 +20,11 @@ pub extern "C" fn stipeharbor_measure(
     line_cap: u32,
     merge_range: f32,
     detail: u32,
+    dash_offset: f32,
+    dashes: &[f32],
     answer: &mut [usize],
 ) -> u32
-    ensures { λ r. ⌜ record { number = r; answer = now (answer .exit) } ≡ measureOutOf (now (verbs .entry)) (now (coords .entry)) (optionsOf width «miter_limit» «line_join» «line_cap» «merge_range» detail) (now (answer .entry)) ⌝ }
+    ensures { λ r. ⌜ record { number = r; answer = now (answer .exit) } ≡ measureOutOf (now (verbs .entry)) (now (coords .entry)) (optionsOf width «miter_limit» «line_join» «line_cap» «merge_range» detail «dash_offset») (now (dashes .entry)) (now (answer .entry)) ⌝ }
 {
     let options = Options {
         width: width,
@@ -31,8 +33,9 @@ pub extern "C" fn stipeharbor_measure(
         cap: line_cap,
         merge_range: merge_range,
         detail: detail,
+        offset: dash_offset,
     };
-    let a = measured_answer_of(measure(verbs, coords, options));
+    let a = measured_answer_of(measure(verbs, coords, options, dashes));
     put_numbers(answer, a.place, a.vertices, a.triangles);
     a.number
 }
@@ -49,11 +52,13 @@ pub extern "C" fn stipeharbor_run_part(
     line_cap: u32,
     merge_range: f32,
     detail: u32,
+    dash_offset: f32,
+    dashes: &[f32],
     run: usize,
     vertices: &[f32],
     answer: &mut [usize],
 ) -> u32
-    ensures { λ r. ⌜ record { number = r; answer = now (answer .exit) } ≡ partOutOf (now (verbs .entry)) (now (coords .entry)) (optionsOf width «miter_limit» «line_join» «line_cap» «merge_range» detail) run (now (vertices .entry)) (now (answer .entry)) ⌝ }
+    ensures { λ r. ⌜ record { number = r; answer = now (answer .exit) } ≡ partOutOf (now (verbs .entry)) (now (coords .entry)) (optionsOf width «miter_limit» «line_join» «line_cap» «merge_range» detail «dash_offset») (now (dashes .entry)) run (now (vertices .entry)) (now (answer .entry)) ⌝ }
 {
     let options = Options {
         width: width,
@@ -62,8 +67,9 @@ pub extern "C" fn stipeharbor_run_part(
         cap: line_cap,
         merge_range: merge_range,
         detail: detail,
+        offset: dash_offset,
     };
-    let a = part_answer_of(find_run(verbs, coords, options, run, vertices.len()));
+    let a = part_answer_of(find_run(verbs, coords, options, dashes, run, vertices.len()));
     put_numbers(answer, a.place, a.start, a.length);
     a.number
 }

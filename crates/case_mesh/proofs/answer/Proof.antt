@@ -5,6 +5,9 @@ use lib.Seq.{length-take-le}
 use Rattle.case_mesh.proofs.answer.Statement.{statement}
 use Rattle.case_mesh.proofs.answer.Tie as tie
 
+slice-aggregate-read-front : tie.Need-slice-aggregate-read-front
+slice-aggregate-read-front c = search needs
+
 read-front-requires : tie.Need-read-front-requires
 read-front-requires c κs = search needs
 
@@ -27,16 +30,34 @@ returns : tie.Need-returns
 returns c = search needs
 
 array-share-prefix-verbs : tie.Need-array-share-prefix-verbs
-array-share-prefix-verbs c = rw (c .before .before .before .before .before .read-path .kept .1 .1 .0) (c .before .before .before .before .before .read-path .ensures .0)
+array-share-prefix-verbs c =
+    let path = c .before .before .before .before .before .read-path in
+    rw (path .kept .1 .1 .0) (path .ensures .0)
 
 slice-aggregate-answer-mesh : tie.Need-slice-aggregate-answer-mesh
-slice-aggregate-answer-mesh c = sym (length-take-le (c .before .before .before .before .before .before .read-path .result .verbs) (c .before .before .before .before .before .before .read-path .last .1 .1 .0) (array-share-prefix-verbs (c .before)))
+slice-aggregate-answer-mesh c =
+    let path = c .before .before .before .before .before .before .read-path in
+    sym (length-take-le (path .result .verbs) (path .last .1 .1 .0) (array-share-prefix-verbs (c .before)))
 
 array-share-prefix-coords : tie.Need-array-share-prefix-coords
-array-share-prefix-coords c = rw (c .before .before .before .before .before .before .read-path .kept .1 .1 .1 .0) (c .before .before .before .before .before .before .read-path .ensures .1)
+array-share-prefix-coords c =
+    let path = c .before .before .before .before .before .before .read-path in
+    rw (path .kept .1 .1 .1 .0) (path .ensures .1)
 
 slice-aggregate-answer-mesh-2 : tie.Need-slice-aggregate-answer-mesh-2
-slice-aggregate-answer-mesh-2 c = sym (length-take-le (c .before .before .before .before .before .before .before .read-path .result .coords) (c .before .before .before .before .before .before .before .read-path .last .1 .1 .1 .0) (array-share-prefix-coords (c .before)))
+slice-aggregate-answer-mesh-2 c =
+    let path = c .before .before .before .before .before .before .before .read-path in
+    sym (length-take-le (path .result .coords) (path .last .1 .1 .1 .0) (array-share-prefix-coords (c .before)))
+
+array-share-prefix-lengths : tie.Need-array-share-prefix-lengths
+array-share-prefix-lengths c =
+    let front = c .before .before .before .before .before .before .before .before .before .before .before .read-front in
+    rw (front .kept .1 .1 .0) (front .ensures .0)
+
+slice-aggregate-answer-mesh-3 : tie.Need-slice-aggregate-answer-mesh-3
+slice-aggregate-answer-mesh-3 c =
+    let front = c .before .before .before .before .before .before .before .before .before .before .before .before .read-front in
+    sym (length-take-le (front .result .dashes) (front .last .1 .1 .0) (array-share-prefix-lengths (c .before)))
 
 answer-mesh-requires : tie.Need-answer-mesh-requires
 answer-mesh-requires c κs = search needs
@@ -48,6 +69,7 @@ pub answer-spec : {M : Type 1} → statement M
 answer-spec =
     tie.close
     (tie.spec
+    slice-aggregate-read-front
     read-front-requires
     slice-aggregate-read-path
     slice-aggregate-read-path-2
@@ -59,5 +81,7 @@ answer-spec =
     slice-aggregate-answer-mesh
     array-share-prefix-coords
     slice-aggregate-answer-mesh-2
+    array-share-prefix-lengths
+    slice-aggregate-answer-mesh-3
     answer-mesh-requires
     returns-2)

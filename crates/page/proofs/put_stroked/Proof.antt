@@ -19,6 +19,9 @@ slice-aggregate-tessellate-2 c = refl
 slice-aggregate-tessellate-3 : tie.Need-slice-aggregate-tessellate-3
 slice-aggregate-tessellate-3 c = refl
 
+slice-aggregate-tessellate-4 : tie.Need-slice-aggregate-tessellate-4
+slice-aggregate-tessellate-4 c = refl
+
 tessellate-requires : tie.Need-tessellate-requires
 tessellate-requires c κs = tt
 
@@ -30,7 +33,7 @@ put-refused-requires c κs = tt
 
 returns : tie.Need-returns
 returns c =
-    let o = c .before .before .before .before .before .before .before .before .before .before .before .before .options in
+    let o = c .before .before .before .before .before .before .before .before .before .before .before .before .before .options in
     let t = c .before .before .before .before .before .before .before .before .tessellate in
     let a = c .before .before .before .before .mesh-answer-of in
     let p = c .put-refused in
@@ -44,15 +47,15 @@ slice-aggregate-put-mesh-2 c = search needs
 
 put-mesh-requires : tie.Need-put-mesh-requires
 put-mesh-requires c κs =
-    let o = c .before .before .before .before .before .before .before .before .before .before .before .before .before .options in
+    let o = c .before .before .before .before .before .before .before .before .before .before .before .before .before .before .options in
     let t = c .before .before .before .before .before .before .before .before .before .tessellate in
     let a = c .before .before .before .before .before .mesh-answer-of in
     let r = mesh-within _ _ (rw (o .ensures) at (t .ensures)) (a .ensures) (c .before .before .before .if1 .left) in
-    ((r .0, omega (arith, t .kept .1 .1 .1 .0)), ((r .1, omega (arith, t .kept .1 .1 .1 .1 .1 .0)), mesh-short _ _ (rw (o .ensures) at (t .ensures)) (a .ensures) (r .0)))
+    ((r .0, omega (arith, t .kept .1 .1 .1 .1 .0)), ((r .1, omega (arith, t .kept .1 .1 .1 .1 .1 .1 .0)), mesh-short _ _ (rw (o .ensures) at (t .ensures)) (a .ensures) (r .0)))
 
 returns-2 : tie.Need-returns-2
 returns-2 c =
-    let o = c .before .before .before .before .before .before .before .before .before .before .before .before .before .before .options in
+    let o = c .before .before .before .before .before .before .before .before .before .before .before .before .before .before .before .options in
     let t = c .before .before .before .before .before .before .before .before .before .before .tessellate in
     let a = c .before .before .before .before .before .before .mesh-answer-of in
     let p = c .put-mesh in
@@ -66,6 +69,7 @@ put-stroked-spec =
     slice-aggregate-tessellate
     slice-aggregate-tessellate-2
     slice-aggregate-tessellate-3
+    slice-aggregate-tessellate-4
     tessellate-requires
     mesh-answer-of-requires
     put-refused-requires

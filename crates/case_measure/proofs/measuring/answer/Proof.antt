@@ -5,6 +5,9 @@ use lib.Seq.{length-take-le}
 use Rattle.case_measure.proofs.measuring.answer.Statement.{statement}
 use Rattle.case_measure.proofs.measuring.answer.Tie as tie
 
+slice-aggregate-read-options : tie.Need-slice-aggregate-read-options
+slice-aggregate-read-options c = search needs
+
 read-options-requires : tie.Need-read-options-requires
 read-options-requires c κs = search needs
 
@@ -27,16 +30,34 @@ returns : tie.Need-returns
 returns c = search needs
 
 array-share-prefix-verbs : tie.Need-array-share-prefix-verbs
-array-share-prefix-verbs c = rw (c .before .before .before .before .before .before .read-path .kept .1 .1 .0) (c .before .before .before .before .before .before .read-path .ensures .0)
+array-share-prefix-verbs c =
+    let path = c .before .before .before .before .before .before .read-path in
+    rw (path .kept .1 .1 .0) (path .ensures .0)
 
 slice-aggregate-answer-measure : tie.Need-slice-aggregate-answer-measure
-slice-aggregate-answer-measure c = sym (length-take-le (c .before .before .before .before .before .before .before .read-path .result .verbs) (c .before .before .before .before .before .before .before .read-path .last .1 .1 .0) (array-share-prefix-verbs (c .before)))
+slice-aggregate-answer-measure c =
+    let path = c .before .before .before .before .before .before .before .read-path in
+    sym (length-take-le (path .result .verbs) (path .last .1 .1 .0) (array-share-prefix-verbs (c .before)))
 
 array-share-prefix-coords : tie.Need-array-share-prefix-coords
-array-share-prefix-coords c = rw (c .before .before .before .before .before .before .before .read-path .kept .1 .1 .1 .0) (c .before .before .before .before .before .before .before .read-path .ensures .1)
+array-share-prefix-coords c =
+    let path = c .before .before .before .before .before .before .before .read-path in
+    rw (path .kept .1 .1 .1 .0) (path .ensures .1)
 
 slice-aggregate-answer-measure-2 : tie.Need-slice-aggregate-answer-measure-2
-slice-aggregate-answer-measure-2 c = sym (length-take-le (c .before .before .before .before .before .before .before .before .read-path .result .coords) (c .before .before .before .before .before .before .before .before .read-path .last .1 .1 .1 .0) (array-share-prefix-coords (c .before)))
+slice-aggregate-answer-measure-2 c =
+    let path = c .before .before .before .before .before .before .before .before .read-path in
+    sym (length-take-le (path .result .coords) (path .last .1 .1 .1 .0) (array-share-prefix-coords (c .before)))
+
+array-share-prefix-lengths : tie.Need-array-share-prefix-lengths
+array-share-prefix-lengths c =
+    let options = c .before .before .before .before .before .before .before .before .before .before .before .before .read-options in
+    rw (options .kept .1 .1 .0) (options .ensures)
+
+slice-aggregate-answer-measure-3 : tie.Need-slice-aggregate-answer-measure-3
+slice-aggregate-answer-measure-3 c =
+    let options = c .before .before .before .before .before .before .before .before .before .before .before .before .before .read-options in
+    sym (length-take-le (options .result .dashes) (options .last .1 .1 .0) (array-share-prefix-lengths (c .before)))
 
 answer-measure-requires : tie.Need-answer-measure-requires
 answer-measure-requires c κs = search needs
@@ -48,6 +69,7 @@ pub answer-spec : {M : Type 1} → statement M
 answer-spec =
     tie.close
     (tie.spec
+    slice-aggregate-read-options
     read-options-requires
     slice-aggregate-read-path
     slice-aggregate-read-path-2
@@ -59,5 +81,7 @@ answer-spec =
     slice-aggregate-answer-measure
     array-share-prefix-coords
     slice-aggregate-answer-measure-2
+    array-share-prefix-lengths
+    slice-aggregate-answer-measure-3
     answer-measure-requires
     returns-2)

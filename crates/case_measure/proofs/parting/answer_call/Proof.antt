@@ -23,7 +23,9 @@ answered-requires : tie.Need-answered-requires
 answered-requires c κs = search needs
 
 same-length : tie.Need-same-length
-same-length c = c .before .before .before .before .before .before .before .before .before .before .before .before .before .before .tessellate .kept .1 .1 .1 .0 ∙ c .before .before .before .before .before .before .before .before .before .before .before .before .before .before .before .before .before .before .before .before .fill-floats .kept .0
+same-length c =
+    let drawn = c .before .before .before .before .before .before .before .before .before .before .before .before .before .before in
+    drawn .tessellate .kept .1 .1 .1 .1 .0 ∙ drawn .before .before .before .before .before .before .fill-floats .kept .0
 
 same-length-2 : tie.Need-same-length-2
 same-length-2 c = search needs

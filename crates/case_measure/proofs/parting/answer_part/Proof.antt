@@ -10,7 +10,7 @@ array-borrow-prefix-v : tie.Need-array-borrow-prefix-v
 array-borrow-prefix-v c = search needs
 
 slice-aggregate-answer-call : tie.Need-slice-aggregate-answer-call
-slice-aggregate-answer-call c = sym (length-take-le (c .before .before .before .before .before .args .asked .floats) _ (array-borrow-prefix-v (c .before)))
+slice-aggregate-answer-call c = sym (length-take-le (c .before .before .before .before .before .before .args .asked .floats) _ (array-borrow-prefix-v (c .before)))
 
 slice-aggregate-answer-call-2 : tie.Need-slice-aggregate-answer-call-2
 slice-aggregate-answer-call-2 c = search needs
@@ -19,7 +19,7 @@ slice-aggregate-answer-call-3 : tie.Need-slice-aggregate-answer-call-3
 slice-aggregate-answer-call-3 c = search needs
 
 answer-call-requires : tie.Need-answer-call-requires
-answer-call-requires c κs = subst (λ (k : ℕ). k ≤ 81920) (slice-aggregate-answer-call (c .before .before)) (c .before .before .before .before .before .before .before .pre)
+answer-call-requires c κs = subst (λ (k : ℕ). k ≤ 81920) (slice-aggregate-answer-call (c .before .before)) (c .before .before .before .before .before .before .before .before .pre)
 
 returns : tie.Need-returns
 returns c = search needs

@@ -18,7 +18,7 @@ same-length : tie.Need-same-length
 same-length c = search needs
 
 returns : tie.Need-returns
-returns c = is-measured _ _ _ _ (c .before .before .before .before .measured-answer-of .ensures ∙ c .before .before .before .before .before .measure .ensures) (c .before .before .put-numbers .ensures)
+returns c = is-measured _ _ _ _ _ (c .before .before .before .before .measured-answer-of .ensures ∙ c .before .before .before .before .before .measure .ensures) (c .before .before .put-numbers .ensures)
 
 pub stipeharbor-measure-spec : {M : Type 1} → statement M
 stipeharbor-measure-spec =

@@ -18,7 +18,7 @@ same-length : tie.Need-same-length
 same-length c = search needs
 
 returns : tie.Need-returns
-returns c = is-part _ _ _ _ _ _ (c .before .before .before .before .part-answer-of .ensures ∙ c .before .before .before .before .before .find-run .ensures) (c .before .before .put-numbers .ensures)
+returns c = is-part _ _ _ _ _ _ _ (c .before .before .before .before .part-answer-of .ensures ∙ c .before .before .before .before .before .find-run .ensures) (c .before .before .put-numbers .ensures)
 
 pub stipeharbor-run-part-spec : {M : Type 1} → statement M
 stipeharbor-run-part-spec =

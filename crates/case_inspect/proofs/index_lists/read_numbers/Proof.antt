@@ -1,11 +1,11 @@
--- `case_inspect::lists::read_numbers` is safe and ends. The measure is the number of places that are left. Assumes nothing.
+-- `case_inspect::index_lists::read_numbers` is safe and ends. The measure is the number of places that are left. Assumes nothing.
 use borrow.Author.Needs.{needs}
 use Prim.Native.Nat.{_-_}
 use mathlib.Core.Path.{_≡_, refl}
 use native.Mathlib.Omega.{arith}
 use lib.ListN.{length, length-set}
-use Rattle.case_inspect.proofs.lists.read_numbers.Statement.{statement}
-use Rattle.case_inspect.proofs.lists.read_numbers.Tie as tie
+use Rattle.case_inspect.proofs.index_lists.read_numbers.Statement.{statement}
+use Rattle.case_inspect.proofs.index_lists.read_numbers.Tie as tie
 
 abbrev Inv-loop : tie.InvT-loop
 Inv-loop line list₀ at₀ i₀ list at i = length list ≡ length list₀

@@ -1,9 +1,9 @@
--- `case_inspect::lists::read_list` meets its contract: a count that is read is no larger than the lent list. Assumes nothing.
+-- `case_inspect::index_lists::read_list` meets its contract: a count that is read is no larger than the lent list. Assumes nothing.
 use borrow.Author.Needs.{needs}
 use mathlib.Core.Path.{sym}
 use lib.Seq.{length-take-le}
-use Rattle.case_inspect.proofs.lists.read_list.Statement.{statement}
-use Rattle.case_inspect.proofs.lists.read_list.Tie as tie
+use Rattle.case_inspect.proofs.index_lists.read_list.Statement.{statement}
+use Rattle.case_inspect.proofs.index_lists.read_list.Tie as tie
 
 read-up-to-requires : tie.Need-read-up-to-requires
 read-up-to-requires c κs = search needs
