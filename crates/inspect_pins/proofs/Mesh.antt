@@ -18,7 +18,7 @@ use Rattle.path.specs.Runs.{Run}
 use Rattle.pieces.specs.Piece.{Lists, flatT}
 use Rattle.run.specs.Run.{shapeCount, shapeTriangles}
 use Rattle.run.proofs.Facts.{run-covers}
-use Rattle.runs.specs.Runs.{runsOf, drawnOf, meshCount, meshTriangles}
+use Rattle.runs.specs.Runs.{pathRuns, drawnOf, meshCount, meshTriangles}
 use Rattle.mesh.specs.Demand3.{EarnsNone, AllStand}
 use Rattle.mesh.specs.Mesh.{Outcome, outcomeOf}
 use Rattle.mesh.proofs.Demand3.{demand-3}
@@ -62,22 +62,22 @@ run-by-run o base [] = tt
 run-by-run o base (r ∷ rs) = (run-attached o base r, run-by-run o (base + shapeCount (drawnOf o r)) rs)
 
 -- ---- the whole mesh: a path that earns none of refusals 1 to 4, in lists with room
-module _ (verbs : List ℕ) (coords : List Float) (options : Options) (o : Stroke) (e : EarnsNone verbs coords options o) (l : Lists)
-    (h : 5 * meshCount o (runsOf verbs coords) ≤ length (l .vertices)) (k : meshCount o (runsOf verbs coords) ≤ length (l .sources)) (g : 3 * length (meshTriangles o 0 (runsOf verbs coords)) ≤ length (l .triangles))
+module _ (verbs : List ℕ) (coords : List Float) (options : Options) (ds : List Float) (o : Stroke) (e : EarnsNone verbs coords options ds o) (l : Lists)
+    (h : 5 * meshCount o (pathRuns o ds verbs coords) ≤ length (l .vertices)) (k : meshCount o (pathRuns o ds verbs coords) ≤ length (l .sources)) (g : 3 * length (meshTriangles o 0 (pathRuns o ds verbs coords)) ≤ length (l .triangles))
   where
     abbrev rs : List (Run Endpoint)
-    rs = runsOf verbs coords
+    rs = pathRuns o ds verbs coords
 
     abbrev out : Outcome
-    out = outcomeOf verbs coords options l
+    out = outcomeOf verbs coords options ds l
 
     each : Runs 0 (meshCount o rs) (runTriangles o 0 rs)
-    each = subst (λ (n : ℕ). Runs 0 n (runTriangles o 0 rs)) (zero-add (meshCount o rs)) (stand-runs o 0 rs (demand-3 verbs coords options o e l .each))
+    each = subst (λ (n : ℕ). Runs 0 n (runTriangles o 0 rs)) (zero-add (meshCount o rs)) (stand-runs o 0 rs (demand-3 verbs coords options ds o e l .each))
 
     -- what a question is asked of: the counts, and the triangles of all runs
     asked : (question : ℕ → List ℕ → Verdict) → question (out .answer .vertices) (meshNumbers out) ≡ question (meshCount o rs) (flatT (together (runTriangles o 0 rs)))
     asked question =
-        let w = demand-3 verbs coords options o e l .rooms .enough h k g in
+        let w = demand-3 verbs coords options ds o e l .rooms .enough h k g in
         rw (w .answer) (ap (question (meshCount o rs)) (w .triangles ∙ ap flatT (triangles-together o 0 rs)))
 
     -- "Prove that every mesh we write passes."

@@ -4,7 +4,7 @@ use mathlib.Core.Path.{_≡_, refl, sym, ap, _∙_}
 use Prim.Native.Nat.{ℕ}
 use mathlib.Core.Bool.{cond}
 use lib.Dec.{eqb}
-use Rattle.refusals.specs.Numbers.{numberOf, accepted, outOfRange, tooManyVerbs, misplacedVerb, vertexRoom, longText, malformedText, largeNumber, triangleRoom, listRoom}
+use Rattle.refusals.specs.Numbers.{numberOf, accepted, outOfRange, tooManyVerbs, misplacedVerb, badCoordinate, vertexRoom, longText, malformedText, largeNumber, triangleRoom, listRoom}
 use Rattle.plane.specs.Normal.{normalAnswerOf}
 use Rattle.plane.specs.declared.normal.JoinDirection.{JoinDirection}
 use Rattle.plane.specs.declared.normal.JoinDirection.the-variants as normal
@@ -47,12 +47,13 @@ direction-is normal.Refused = refl
 pub one-direction : (r s : JoinDirection) → normalAnswerOf r ≡ normalAnswerOf s → r ≡ s
 one-direction = same-case normalAnswerOf direction direction-is
 
--- ---- refusals 1 to 4
+-- ---- refusals 1 to 4, and 26
 refusalOf : ℕ → ℕ → Refusal
 refusalOf number place =
     cond (eqb number (numberOf outOfRange)) refusal.OutOfRange
     (cond (eqb number (numberOf tooManyVerbs)) refusal.TooManyVerbs
-    (cond (eqb number (numberOf misplacedVerb)) (refusal.Verb place) (refusal.Coordinate place)))
+    (cond (eqb number (numberOf misplacedVerb)) (refusal.Verb place)
+    (cond (eqb number (numberOf badCoordinate)) (refusal.Coordinate place) refusal.TooManyCuts)))
 
 -- ---- stroke_of
 stroked : StrokeAnswer → Stroked
@@ -65,6 +66,7 @@ stroked-is (stroke.Refused refusal.OutOfRange) = refl
 stroked-is (stroke.Refused refusal.TooManyVerbs) = refl
 stroked-is (stroke.Refused (refusal.Verb i)) = refl
 stroked-is (stroke.Refused (refusal.Coordinate i)) = refl
+stroked-is (stroke.Refused refusal.TooManyCuts) = refl
 
 pub one-stroked : (r s : Stroked) → strokeAnswerOf r ≡ strokeAnswerOf s → r ≡ s
 one-stroked = same-case strokeAnswerOf stroked stroked-is
@@ -80,6 +82,7 @@ checked-is (check.Refused refusal.OutOfRange) = refl
 checked-is (check.Refused refusal.TooManyVerbs) = refl
 checked-is (check.Refused (refusal.Verb i)) = refl
 checked-is (check.Refused (refusal.Coordinate i)) = refl
+checked-is (check.Refused refusal.TooManyCuts) = refl
 
 pub one-checked : (r s : Checked) → checkAnswerOf r ≡ checkAnswerOf s → r ≡ s
 one-checked = same-case checkAnswerOf checked checked-is
@@ -98,6 +101,7 @@ meshed-is (mesh.Refused refusal.OutOfRange) = refl
 meshed-is (mesh.Refused refusal.TooManyVerbs) = refl
 meshed-is (mesh.Refused (refusal.Verb i)) = refl
 meshed-is (mesh.Refused (refusal.Coordinate i)) = refl
+meshed-is (mesh.Refused refusal.TooManyCuts) = refl
 meshed-is (mesh.VertexRoom n m) = refl
 meshed-is (mesh.TriangleRoom n m) = refl
 

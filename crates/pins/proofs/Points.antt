@@ -25,6 +25,12 @@ use Rattle.vertices.specs.Cap.{capVertexOf, capPairOf, capVerticesOf}
 use Rattle.vertices.specs.Vertex.{vertexOf, triangleOf}
 use Rattle.path.specs.Coordinates.{coordinateIn, firstOutside}
 use Rattle.options.specs.Options.{within, lineJoinOf, inRange, preparedOf, strokeOf, lineCapOf, isRound, levelOf}
+use Rattle.cuts.specs.Checked.{cutCheckedOf}
+use Rattle.cuts.specs.Cuts.{hasTooManyCuts, runsCuts, cutCount}
+use Rattle.cuts.specs.Runs.{linesOf, cutRun, cutRuns}
+use Rattle.dashes.specs.Pattern.{patternIn, lengthsIn, offsetIn, lengthIn, evenOf, lengthAt, isDash, wornFrom, firstCut, nextCut}
+use Rattle.dashes.specs.Marks.{fallsOn, cutOf as cutPoint, passedOf, spotOf, cutsOn, behind, cutMarks, marksFrom, marksOf}
+use Rattle.dashes.specs.Dashes.{dashesFrom, dashesOf}
 use Rattle.path.specs.Path.{malformed, checkedOf}
 use Rattle.path.specs.Runs.{runsFrom}
 use Rattle.path.specs.Verbs.{begin, line, endOpen, endClosed, names, placed, firstMisplaced, endsInside, named, pointCount}
@@ -65,7 +71,7 @@ merging merge = record { join = 0; cap = 0; merge = merge }
 
 -- width 2 and limit 4
 abbrev optionsOf : Pen → Options
-optionsOf p = record { width = f32 0x40000000; «miter_limit» = f32 0x40800000; «line_join» = p .join; cap = p .cap; «merge_range» = f32 (p .merge); detail = 0 }
+optionsOf p = record { width = f32 0x40000000; «miter_limit» = f32 0x40800000; «line_join» = p .join; cap = p .cap; «merge_range» = f32 (p .merge); detail = 0; offset = f32 0 }
 
 -- the endpoint k, otherwise blank, for the window's cases
 abbrev numbered : ℕ → EndpointData
@@ -97,6 +103,8 @@ pub data Case : Type 0 where
   mesh : Pen → List ℕ → List ℕ → ℕ → ℕ → ℕ → ℕ → ℕ → ℕ → Case
   -- verbs and the patterns of the coordinates; how many vertices and triangles there are; then a vertex's number and the patterns of its place
   stands : Pen → List ℕ → List ℕ → ℕ → ℕ → ℕ → ℕ → ℕ → Case
+  -- the patterns of the offset and of the dashes' lengths; verbs and the patterns of the coordinates; then the number and both counts
+  dashed : Pen → ℕ → List ℕ → List ℕ → List ℕ → ℕ → ℕ → ℕ → Case
   -- the patterns of the merge range and of an open run's coordinates, and how many of its points are kept
   keeps : ℕ → List ℕ → ℕ → Case
   -- calls on a new window, and the endpoints that it then reads at 0, 1 and 2
@@ -114,11 +122,16 @@ hasBits xs i b = eqb (toBits binary32 (getD xs i nan)) b
 
 says : Case → Bool
 says (mesh p vs cs nv nt number place n m) =
-    let a = outcomeOf vs (map f32 cs) (optionsOf p) (lent (replicate (5 * nv) (f32 0)) (replicate nv 0) (replicate (3 * nt) 0)) .answer in
+    let a = outcomeOf vs (map f32 cs) (optionsOf p) [] (lent (replicate (5 * nv) (f32 0)) (replicate nv 0) (replicate (3 * nt) 0)) .answer in
     eqb (a .number) number && eqb (a .place) place && (eqb (a .vertices) n && eqb (a .triangles) m)
 says (stands p vs cs n m i x y) =
-    let o = outcomeOf vs (map f32 cs) (optionsOf p) (lent (replicate (5 * n) (f32 0)) (replicate n 0) (replicate (3 * m) 0)) in
+    let o = outcomeOf vs (map f32 cs) (optionsOf p) [] (lent (replicate (5 * n) (f32 0)) (replicate n 0) (replicate (3 * m) 0)) in
     eqb (o .answer .number) 0 && (hasBits (o .lists .vertices) (5 * i) x && hasBits (o .lists .vertices) (5 * i + 1) y)
+says (dashed p offset ds vs cs number n m) =
+    let o = optionsOf p in
+    let worn : Options = record { width = o .width; «miter_limit» = o .«miter_limit»; «line_join» = o .«line_join»; cap = o .cap; «merge_range» = o .«merge_range»; detail = 0; offset = f32 offset } in
+    let a = outcomeOf vs (map f32 cs) worn (map f32 ds) (lent (replicate (5 * n) (f32 0)) (replicate n 0) (replicate (3 * m) 0)) .answer in
+    eqb (a .number) number && eqb (a .place) 0 && (eqb (a .vertices) n && eqb (a .triangles) m)
 says (keeps r cs n) = eqb (length (keptPoints (preparedOf (optionsOf (merging r)) .near) false (endpointsOf 0 (map f32 cs)))) n
 says (window cs a b c) = let xs = after [] cs in reads xs 0 a && (reads xs 1 b && reads xs 2 c)
 says (root x number r) = let a = rootAnswer (f32 x) in eqb (a .number) number && eqb (toBits binary32 (a .value)) r
@@ -135,6 +148,10 @@ ring = begin ∷ line ∷ line ∷ line ∷ line ∷ endClosed ∷ []
 
 abbrev traced : List ℕ
 traced = 0 ∷ 0 ∷ 0x41200000 ∷ 0 ∷ 0x41200000 ∷ 0x41200000 ∷ 0x3f666666 ∷ 0 ∷ 0 ∷ 0x3f666666 ∷ []
+
+-- (0,0) to (8,0)
+eight : List ℕ
+eight = 0 ∷ 0 ∷ 0x41000000 ∷ 0 ∷ []
 
 pub cases : List Case
 cases =
@@ -180,7 +197,18 @@ cases =
     -- W-201: (0,0), (10,0), (10,10), (0.9,0), (0,0.9), closed: 6 and 6 at range 1, 10 and 10 at 1/128
     ∷ mesh (merging 0x3f800000) ring traced 6 6 0 0 6 6 ∷ mesh (merging 0x3c000000) ring traced 10 10 0 0 10 10
     -- W-201: the f32 before 1/128, the f32 after 1, a NaN: 1
-    ∷ mesh (merging 0x3bffffff) [] [] 0 0 1 0 0 0 ∷ mesh (merging 0x3f800001) [] [] 0 0 1 0 0 0 ∷ mesh (merging 0x7fc00000) [] [] 0 0 1 0 0 0 ∷ []
+    ∷ mesh (merging 0x3bffffff) [] [] 0 0 1 0 0 0 ∷ mesh (merging 0x3f800001) [] [] 0 0 1 0 0 0 ∷ mesh (merging 0x7fc00000) [] [] 0 0 1 0 0 0
+    -- W-213: (0,0), (4,0), (4,4), dashes 4: the cut at (4,0) ends the dash and begins the gap. (0,0) to (8,0): by 8 no cut falls on it, by 4 one, by 3 two
+    ∷ dashed (pen 0 0) 0 (0x40800000 ∷ []) (begin ∷ line ∷ line ∷ endOpen ∷ []) (0 ∷ 0 ∷ 0x40800000 ∷ 0 ∷ 0x40800000 ∷ 0x40800000 ∷ []) 0 4 2
+    ∷ dashed (pen 0 0) 0 (0x41000000 ∷ []) (begin ∷ line ∷ endOpen ∷ []) eight 0 4 2 ∷ dashed (pen 0 0) 0 (0x40800000 ∷ []) (begin ∷ line ∷ endOpen ∷ []) eight 0 4 2
+    ∷ dashed (pen 0 0) 0 (0x40400000 ∷ []) (begin ∷ line ∷ endOpen ∷ []) eight 0 8 4
+    -- (0,0), (4,0), (4,3), closed, dashes 16 and 1/4: no cut, one open run from p0 to p0
+    ∷ dashed (pen 0 0) 0 (0x41800000 ∷ 0x3e800000 ∷ []) (begin ∷ line ∷ line ∷ endClosed ∷ []) (0 ∷ 0 ∷ 0x40800000 ∷ 0 ∷ 0x40800000 ∷ 0x40400000 ∷ []) 0 8 6
+    -- (0,0), closed, Square, dashes 3, offset 4: rule 2, though p0 is in a gap. Dashes 1/4 and 7.75 with merge range 1/2, Square: a dash left with one point is nothing
+    ∷ dashed (pen 0 1) 0x40800000 (0x40400000 ∷ []) (begin ∷ endClosed ∷ []) (0 ∷ 0 ∷ []) 0 4 2
+    ∷ dashed (record { join = 0; cap = 1; merge = 0x3f000000 }) 0 (0x3e800000 ∷ 0x40f80000 ∷ []) (begin ∷ line ∷ endOpen ∷ []) eight 0 0 0
+    -- an offset of -1 is refused also where there are no dashes, and a length below 1/4
+    ∷ dashed (pen 0 0) 0xbf800000 [] [] [] 1 0 0 ∷ dashed (pen 0 0) 0 (0x3e7fffff ∷ []) [] [] 1 0 0 ∷ []
 
 -- what the checker opens to compute them
 arithmetic : Unit {0}
@@ -200,8 +228,12 @@ unfolding baseVertexOf sideVerticesOf capVertexOf capPairOf capVerticesOf vertex
 vertices = tt
 
 paths : Unit {0}
-unfolding coordinateIn firstOutside within lineJoinOf lineCapOf inRange preparedOf strokeOf isRound malformed checkedOf runsFrom names placed firstMisplaced endsInside named pointCount endpointsOf
+unfolding coordinateIn firstOutside within lineJoinOf lineCapOf inRange preparedOf strokeOf patternIn lengthsIn lengthIn offsetIn isRound malformed checkedOf cutCheckedOf hasTooManyCuts runsCuts cutCount cutRuns cutRun linesOf runsFrom names placed firstMisplaced endsInside named pointCount endpointsOf
 paths = tt
+
+dashes : Unit {0}
+unfolding evenOf lengthAt isDash wornFrom firstCut nextCut fallsOn cutPoint passedOf spotOf cutsOn behind cutMarks marksFrom marksOf dashesFrom dashesOf
+dashes = tt
 
 runs : Unit {0}
 unfolding dataOf unworkedOf jointOf capOf startCapOf endCapOf jointsFrom jointsOf nearOf keptBehind allNear trimmed keptPoints legOf nextLegOf
@@ -212,12 +244,12 @@ unfolding vertexCount jointVerticesOf verticesOf sections flat different triOf b
 meshes = tt
 
 pub worked : every cases ≡ true
-unfolding every says hasBits cases reads after gotOf lastThree lastReplaced computeNormalOf inDomain arithmetic vectors joins vertices paths runs meshes
+unfolding every says hasBits cases eight reads after gotOf lastThree lastReplaced computeNormalOf inDomain arithmetic vectors joins vertices paths dashes runs meshes
 worked = refl
 
 -- the program's example, `M0 1L2 1`: its four vertices, with their normals and advancements, and its triangles
 pub line-example : Outcome
-line-example = outcomeOf (begin ∷ line ∷ endOpen ∷ []) (map f32 (0 ∷ 0x3f800000 ∷ 0x40000000 ∷ 0x3f800000 ∷ [])) (optionsOf (pen 0 0)) (lent (replicate 20 (f32 0)) (replicate 5 9) (replicate 7 9))
+line-example = outcomeOf (begin ∷ line ∷ endOpen ∷ []) (map f32 (0 ∷ 0x3f800000 ∷ 0x40000000 ∷ 0x3f800000 ∷ [])) (optionsOf (pen 0 0)) [] (lent (replicate 20 (f32 0)) (replicate 5 9) (replicate 7 9))
 
 pub written : map (toBits binary32) (line-example .lists .vertices) ≡ 0 ∷ 0x40000000 ∷ 0 ∷ 0x3f800000 ∷ 0
     ∷ 0 ∷ 0 ∷ 0 ∷ 0xbf800000 ∷ 0
@@ -236,12 +268,31 @@ pub faced : line-example .lists .triangles ≡ 1 ∷ 0 ∷ 2 ∷ 1 ∷ 2 ∷ 3 �
 unfolding line-example arithmetic vectors joins vertices paths runs meshes
 faced = refl
 
+-- W-213: `M0 0L8 0`, dashes 3: each dash's advancement begins at 0, and the second one's points are cut from the edge that endpoint 0 begins
+pub dashed-example : Outcome
+dashed-example = outcomeOf (begin ∷ line ∷ endOpen ∷ []) (map f32 eight) (optionsOf (pen 0 0)) (map f32 (0x40400000 ∷ [])) (lent (replicate 40 (f32 0)) (replicate 8 9) (replicate 12 9))
+
+pub dashed-written : map (toBits binary32) (dashed-example .lists .vertices) ≡ 0 ∷ 0x3f800000 ∷ 0 ∷ 0x3f800000 ∷ 0
+    ∷ 0 ∷ 0xbf800000 ∷ 0 ∷ 0xbf800000 ∷ 0
+    ∷ 0x40400000 ∷ 0x3f800000 ∷ 0 ∷ 0x3f800000 ∷ 0x40400000
+    ∷ 0x40400000 ∷ 0xbf800000 ∷ 0 ∷ 0xbf800000 ∷ 0x40400000
+    ∷ 0x40c00000 ∷ 0x3f800000 ∷ 0 ∷ 0x3f800000 ∷ 0
+    ∷ 0x40c00000 ∷ 0xbf800000 ∷ 0 ∷ 0xbf800000 ∷ 0
+    ∷ 0x41000000 ∷ 0x3f800000 ∷ 0 ∷ 0x3f800000 ∷ 0x40000000
+    ∷ 0x41000000 ∷ 0xbf800000 ∷ 0 ∷ 0xbf800000 ∷ 0x40000000 ∷ []
+unfolding dashed-example eight arithmetic vectors joins vertices paths dashes runs meshes
+dashed-written = refl
+
+pub dashed-faced : dashed-example .lists .triangles ≡ 1 ∷ 0 ∷ 2 ∷ 1 ∷ 2 ∷ 3 ∷ 5 ∷ 4 ∷ 6 ∷ 5 ∷ 6 ∷ 7 ∷ []
+unfolding dashed-example eight arithmetic vectors joins vertices paths dashes runs meshes
+dashed-faced = refl
+
 -- W-209: `M0 0L8 0`, width 2, Round cap, k = 1
 pub round-example : Outcome
 round-example =
     outcomeOf (begin ∷ line ∷ endOpen ∷ []) (map f32 (0 ∷ 0 ∷ 0x41000000 ∷ 0 ∷ []))
-    (record { width = f32 0x40000000; «miter_limit» = f32 0x40800000; «line_join» = 0; cap = 2; «merge_range» = f32 0x3c000000; detail = 1 })
-    (lent (replicate 50 (f32 0)) (replicate 11 99) (replicate 25 99))
+    (record { width = f32 0x40000000; «miter_limit» = f32 0x40800000; «line_join» = 0; cap = 2; «merge_range» = f32 0x3c000000; detail = 1; offset = f32 0 })
+    [] (lent (replicate 50 (f32 0)) (replicate 11 99) (replicate 25 99))
 
 arcs : Unit {0}
 unfolding levelOf roundOf middleOf arcNormals arcTriangles arcVertexOf arcVertices normalAt firstNormal lastNormal hubOf getsArc sideWeft startFan endFan then edgeFaces dueWeft arcsWeft endWeft bendWeft wovenFrom bendsFrom bendsOf wovenOf arcSides stepOf stepsOf stepTriangles

@@ -11,6 +11,10 @@ use Rattle.vertices.specs.Base.{baseVertexOf, sideVerticesOf}
 use Rattle.vertices.specs.Vertex.{vertexOf}
 use Rattle.path.specs.Coordinates.{coordinateIn, firstOutside}
 use Rattle.options.specs.Options.{within, inRange, lineJoinOf, lineCapOf, preparedOf, strokeOf, isRound}
+use Rattle.cuts.specs.Checked.{cutCheckedOf}
+use Rattle.cuts.specs.Cuts.{hasTooManyCuts}
+use Rattle.cuts.specs.Runs.{cutRun, cutRuns}
+use Rattle.dashes.specs.Pattern.{patternIn, lengthsIn, offsetIn}
 use Rattle.path.specs.Path.{malformed, checkedOf}
 use Rattle.path.specs.Runs.{runsFrom}
 use Rattle.path.specs.Verbs.{names, placed, firstMisplaced, endsInside, named, pointCount}
@@ -45,7 +49,7 @@ unfolding singleOf edgeSideOf edgeOf baseVertexOf sideVerticesOf vertexOf
 joins = tt
 
 paths : Unit {0}
-unfolding coordinateIn firstOutside within inRange lineJoinOf lineCapOf preparedOf strokeOf isRound malformed checkedOf runsFrom names placed firstMisplaced endsInside named pointCount endpointsOf
+unfolding coordinateIn firstOutside within inRange lineJoinOf lineCapOf preparedOf strokeOf patternIn lengthsIn offsetIn isRound malformed checkedOf cutCheckedOf hasTooManyCuts cutRuns cutRun runsFrom names placed firstMisplaced endsInside named pointCount endpointsOf
 paths = tt
 
 runs : Unit {0}

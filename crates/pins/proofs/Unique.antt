@@ -20,6 +20,7 @@ use Rattle.window.specs.declared.buffer.Replaced.{Replaced}
 use Rattle.window.proofs.Laws.{one-got, one-replaced}
 use Rattle.options.specs.Options.{strokeOf, strokeAnswerOf}
 use Rattle.path.specs.Path.{checkedOf, checkAnswerOf}
+use Rattle.cuts.specs.Checked.{cutCheckedOf}
 use Rattle.path.specs.declared.Checked.{Checked}
 use Rattle.options.specs.declared.Options.{Options}
 use Rattle.options.specs.declared.Stroked.{Stroked}
@@ -42,11 +43,11 @@ abbrev pub Same : {A B : Type 0} → (A → B) → A → A → Type 0
 Same numbers r s = (numbers r ≡ numbers s) × (r ≡ s)
 
 -- ---- mesh::tessellate: the answer and the three lists
-pub mesh-one : (verbs : List ℕ) (coords : List Float) (options : Options) (l : Lists) (r s : Meshed) (v1 v2 : List Float) (s1 s2 t1 t2 : List ℕ)
-    → answered r v1 s1 t1 ≡ outcomeOf verbs coords options l
-    → answered s v2 s2 t2 ≡ outcomeOf verbs coords options l
+pub mesh-one : (verbs : List ℕ) (coords : List Float) (options : Options) (ds : List Float) (l : Lists) (r s : Meshed) (v1 v2 : List Float) (s1 s2 t1 t2 : List ℕ)
+    → answered r v1 s1 t1 ≡ outcomeOf verbs coords options ds l
+    → answered s v2 s2 t2 ≡ outcomeOf verbs coords options ds l
     → Same meshAnswerOf r s × (v1 ≡ v2) × (s1 ≡ s2) × (t1 ≡ t2)
-mesh-one verbs coords options l r s v1 v2 s1 s2 t1 t2 h k =
+mesh-one verbs coords options ds l r s v1 v2 s1 s2 t1 t2 h k =
     let e = h ∙ sym k in
     let n = ap (λ (o : Outcome). o .answer) e in
     ((n, one-meshed r s n), ap (λ (o : Outcome). o .lists .vertices) e, ap (λ (o : Outcome). o .lists .sources) e, ap (λ (o : Outcome). o .lists .triangles) e)
@@ -69,12 +70,16 @@ root-one x r s h k = let n = one-answer x (answerOf r) (answerOf s) h k in (n, o
 pub normal-one : (v1 v2 : Point) (r s : JoinDirection) → normalAnswerOf r ≡ computeNormalOf v1 v2 → normalAnswerOf s ≡ computeNormalOf v1 v2 → Same normalAnswerOf r s
 normal-one v1 v2 r s h k = let n = h ∙ sym k in (n, one-direction r s n)
 
--- ---- path::options::stroke_of and path::check_path, parts of the mesh call
-pub stroke-one : (o : Options) (r s : Stroked) → strokeAnswerOf r ≡ strokeOf o → strokeAnswerOf s ≡ strokeOf o → Same strokeAnswerOf r s
-stroke-one o r s h k = let n = h ∙ sym k in (n, one-stroked r s n)
+-- ---- options::stroke_of, path::check_path and cuts::check_cut_path, parts of the mesh call
+pub stroke-one : (o : Options) (ds : List Float) (r s : Stroked) → strokeAnswerOf r ≡ strokeOf o ds → strokeAnswerOf s ≡ strokeOf o ds → Same strokeAnswerOf r s
+stroke-one o ds r s h k = let n = h ∙ sym k in (n, one-stroked r s n)
 
 pub check-one : (verbs : List ℕ) (coords : List Float) (r s : Checked) → checkAnswerOf r ≡ checkedOf verbs coords → checkAnswerOf s ≡ checkedOf verbs coords → Same checkAnswerOf r s
 check-one verbs coords r s h k = let n = h ∙ sym k in (n, one-checked r s n)
+
+pub cut-check-one : (limit : Float) (ds : List Float) (offset : Float) (verbs : List ℕ) (coords : List Float) (r s : Checked)
+    → checkAnswerOf r ≡ cutCheckedOf limit ds offset verbs coords → checkAnswerOf s ≡ cutCheckedOf limit ds offset verbs coords → Same checkAnswerOf r s
+cut-check-one limit ds offset verbs coords r s h k = let n = h ∙ sym k in (n, one-checked r s n)
 
 -- ---- widths::widen and widths::narrow: the answer and the list
 list-one : (o : widths.Outcome) (r s : Listed) (x y : List ℕ) → record { answer = listedAnswerOf r; list = x } ≡ o → record { answer = listedAnswerOf s; list = y } ≡ o → Same listedAnswerOf r s × (x ≡ y)
