@@ -1,6 +1,6 @@
 /* A deck of any size that the library takes, in C: path text on standard input; the page of its mesh, or one refusal, on standard output, as examples/stripe.c prints it.
    The mesh is measured first, and just the room that it needs is allocated. The exit status is that of examples/stripe.c.
-   usage: large [WIDTH LIMIT JOIN CAP MERGE DETAIL]; without options those of ./stripe. */
+   usage: large [WIDTH LIMIT JOIN CAP MERGE DETAIL [OFFSET DASH..]]; without options those of ./stripe, and with no DASH no dashes. */
 #include <inttypes.h>
 #include <stdio.h>
 #include <stdlib.h>
@@ -8,9 +8,13 @@
 
 #include "stipeharbor.h"
 
+/* One more than a list of dashes may have: with it the list is refused, whatever comes after it. */
+#define DASH_ROOM (STIPEHARBOR_DASH_COUNT_MOST + 1)
+
 struct options {
-    float width, limit, merge;
+    float width, limit, merge, offset, dashes[DASH_ROOM];
     uint32_t join, cap, detail;
+    size_t dash_count;
 };
 
 struct mesh {
@@ -36,20 +40,21 @@ static void *room(size_t n, size_t size)
 }
 
 /* A mesh in lists of just its room: what was measured is never refused for want of it. */
-static uint32_t stroke(const uint8_t *verbs, const float *coords, const size_t *path, struct options o, struct mesh *m)
+static uint32_t stroke(const uint8_t *verbs, const float *coords, const size_t *path, const struct options *o, struct mesh *m)
 {
-    uint32_t number = stipeharbor_measure(verbs, path[1], coords, path[2], o.width, o.limit, o.join, o.cap, o.merge, o.detail, m->answer, 3);
+    uint32_t number = stipeharbor_measure(verbs, path[1], coords, path[2], o->width, o->limit, o->join, o->cap, o->merge, o->detail, o->offset, o->dashes, o->dash_count, m->answer, 3);
     if (number != STIPEHARBOR_ACCEPTED)
         return number;
     size_t n = m->answer[1], t = m->answer[2];
     m->vertices = room(5 * n, sizeof *m->vertices);
     m->sources = room(n, sizeof *m->sources);
     m->triangles = room(3 * t, sizeof *m->triangles);
-    return stipeharbor_tessellate(verbs, path[1], coords, path[2], o.width, o.limit, o.join, o.cap, o.merge, o.detail, m->vertices, 5 * n, m->sources, n, m->triangles, 3 * t, m->answer, 3);
+    return stipeharbor_tessellate(verbs, path[1], coords, path[2], o->width, o->limit, o->join, o->cap, o->merge, o->detail, o->offset, o->dashes, o->dash_count, m->vertices, 5 * n, m->sources, n,
+                                  m->triangles, 3 * t, m->answer, 3);
 }
 
 /* The number of the answer; the lists are as long as the mesh asks for. */
-static uint32_t mesh_of(const uint8_t *text, size_t length, struct options o, struct mesh *m)
+static uint32_t mesh_of(const uint8_t *text, size_t length, const struct options *o, struct mesh *m)
 {
     uint8_t *verbs = room(STIPEHARBOR_VERB_LIMIT, 1);
     float *coords = room(2 * STIPEHARBOR_VERB_LIMIT, sizeof *coords);
@@ -76,21 +81,32 @@ static void print_mesh(const struct mesh *m)
         printf("%" PRIu32 " %" PRIu32 " %" PRIu32 "\n", m->triangles[3 * i], m->triangles[3 * i + 1], m->triangles[3 * i + 2]);
 }
 
+static struct options options_of(int argc, char **argv)
+{
+    struct options o = {.width = 2.0f, .limit = 4.0f, .merge = STIPEHARBOR_MERGE_RANGE_LEAST, .join = STIPEHARBOR_MITER, .cap = STIPEHARBOR_BUTT};
+    if (argc > 6) {
+        o.width = strtof(argv[1], NULL), o.limit = strtof(argv[2], NULL), o.merge = strtof(argv[5], NULL);
+        o.join = (uint32_t)strtoul(argv[3], NULL, 10), o.cap = (uint32_t)strtoul(argv[4], NULL, 10), o.detail = (uint32_t)strtoul(argv[6], NULL, 10);
+    }
+    if (argc > 7)
+        o.offset = strtof(argv[7], NULL);
+    for (int i = 8; i < argc && o.dash_count < DASH_ROOM; i++)
+        o.dashes[o.dash_count++] = strtof(argv[i], NULL);
+    return o;
+}
+
 int main(int argc, char **argv)
 {
-    struct options o = {2.0f, 4.0f, STIPEHARBOR_MERGE_RANGE_LEAST, STIPEHARBOR_MITER, STIPEHARBOR_BUTT, 0};
-    if (argc == 7)
-        o = (struct options){strtof(argv[1], NULL), strtof(argv[2], NULL), strtof(argv[5], NULL), (uint32_t)strtoul(argv[3], NULL, 10), (uint32_t)strtoul(argv[4], NULL, 10),
-                             (uint32_t)strtoul(argv[6], NULL, 10)};
-    else if (argc != 1)
-        return failed("usage: large [WIDTH LIMIT JOIN CAP MERGE DETAIL]");
+    if (argc > 1 && argc < 7)
+        return failed("usage: large [WIDTH LIMIT JOIN CAP MERGE DETAIL [OFFSET DASH..]]");
+    struct options o = options_of(argc, argv);
     struct mesh m = {NULL, NULL, NULL, {0, 0, 0}};
     /* One byte more than a text may have: what comes after it changes nothing. */
     uint8_t *text = room(STIPEHARBOR_TEXT_LIMIT + 1, 1);
     size_t length = fread(text, 1, STIPEHARBOR_TEXT_LIMIT + 1, stdin);
     if (ferror(stdin))
         return failed("the input could not be read");
-    uint32_t number = mesh_of(text, length, o, &m);
+    uint32_t number = mesh_of(text, length, &o, &m);
     if (number == STIPEHARBOR_ACCEPTED)
         print_mesh(&m);
     else

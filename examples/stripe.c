@@ -56,7 +56,7 @@ int main(void)
         number = stipeharbor_read(text, length, verbs, VERB_ROOM, coords, COORD_ROOM, answer, 3);
     if (number == STIPEHARBOR_ACCEPTED)
         number = stipeharbor_tessellate(verbs, answer[1], coords, answer[2], 2.0f, 4.0f, STIPEHARBOR_MITER, STIPEHARBOR_BUTT,
-                                        STIPEHARBOR_MERGE_RANGE_LEAST, 0, vertices, VERTEX_ROOM, sources, SOURCE_ROOM, triangles, TRIANGLE_ROOM, answer, 3);
+                                        STIPEHARBOR_MERGE_RANGE_LEAST, 0, 0.0f, NULL, 0, vertices, VERTEX_ROOM, sources, SOURCE_ROOM, triangles, TRIANGLE_ROOM, answer, 3);
     if (number == STIPEHARBOR_ACCEPTED)
         print_mesh(answer[1], answer[2]);
     else

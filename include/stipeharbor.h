@@ -22,17 +22,17 @@
 /* The version of this header and of the archive that goes with it. Before 1.0.0 MINOR grows where a program that keeps to this header has to be looked at again: a call has other parameters, a number another
  * meaning, an input another answer; PATCH where something is only added. From 1.0.0 on MAJOR and MINOR do so. CHANGELOG.md says what changed. */
 #define STIPEHARBOR_VERSION_MAJOR 0
-#define STIPEHARBOR_VERSION_MINOR 11
+#define STIPEHARBOR_VERSION_MINOR 12
 #define STIPEHARBOR_VERSION_PATCH 0
 
 #ifdef __cplusplus
 extern "C" {
 #endif
 
-/* What a call returns. Where more than one refusal would fit, the least number is given. */
+/* What a call returns. Where more than one refusal would fit, the least number is given; but 26 comes directly behind 4. */
 enum stipeharbor_number {
     STIPEHARBOR_ACCEPTED = 0,
-    STIPEHARBOR_OUT_OF_RANGE = 1,   /* an option is outside its range, or NaN */
+    STIPEHARBOR_OUT_OF_RANGE = 1,   /* an option is outside its range, or NaN; or there are too many dashes, or one of them is outside its range, or NaN */
     STIPEHARBOR_TOO_MANY_VERBS = 2, /* more than STIPEHARBOR_VERB_LIMIT verbs */
     STIPEHARBOR_VERB = 3,           /* the verb at the place is unknown or misplaced; or, at the number of verbs, a run has no end or the coordinates are not two to each begin or line */
     STIPEHARBOR_COORDINATE = 4,     /* the coordinate at the place is not finite or too large */
@@ -55,7 +55,8 @@ enum stipeharbor_number {
     STIPEHARBOR_TWO_ALIKE = 22,     /* the triangle at the place names a vertex twice */
     STIPEHARBOR_VERTEX_UNNAMED = 23, /* the vertex at the place is named by no triangle; it is the smallest */
     STIPEHARBOR_NOT_ATTACHED = 24,  /* the triangle at the place shares exactly two vertices with none before it */
-    STIPEHARBOR_AFTER_CLOSE = 25    /* a call of the radio behind its closing call, with no new start */
+    STIPEHARBOR_AFTER_CLOSE = 25,   /* a call of the radio behind its closing call, with no new start */
+    STIPEHARBOR_TOO_MANY_CUTS = 26  /* the dashes cut the path at more than STIPEHARBOR_CUT_LIMIT points in all */
 };
 
 /* Verbs. A begin and a line have two coordinates each. */
@@ -91,6 +92,13 @@ enum stipeharbor_number {
 #define STIPEHARBOR_MERGE_RANGE_MOST 1.0f
 /* How fine an arc may be; the least is 0. */
 #define STIPEHARBOR_DETAIL_MOST 6
+/* How many lengths a list of dashes may have, how long each may be, and how large the offset; its least is 0. */
+#define STIPEHARBOR_DASH_COUNT_MOST 16
+#define STIPEHARBOR_DASH_LEAST 0.25f
+#define STIPEHARBOR_DASH_MOST 32768.0f
+#define STIPEHARBOR_DASH_OFFSET_MOST 32768.0f
+/* How many cuts dashes may take in a path, its runs together, whether or not anything is drawn there. */
+#define STIPEHARBOR_CUT_LIMIT 65536
 
 /* What a renderer gets, by one join: the path (0,0), (4,0), (4,4), marked +, of width 2, with Miter and Butt; y points up.
  *
@@ -108,24 +116,30 @@ enum stipeharbor_number {
  *
  * - x and y are the path's point plus the normal times half the width, in floats. The normal is not of length 1: it reaches to the side of a stripe of half width 1, at this tip the root of 2 far. A shader that has point and
  *   normal can so change the width a little; at another width the joins may be others.
- * - The advancement is the length of the run from its begin to the vertex's point, over the points that are kept; each run starts at 0. It is for what goes along the lane: dashes, arrows, a texture's coordinate.
+ * - The advancement is the length of the run from its begin to the vertex's point, over the points that are kept; each run starts at 0, and so does each dash. It is for what goes along the lane: arrows, a texture's coordinate.
  * - The source names the path's point, twice its number, and one more on the right-hand side: what a tap on the stripe is to be told by.
  * - The miter limit counts half widths: a tip that lies farther from its point than limit * width / 2 is beyond it. It is SVG's stroke-miterlimit.
  * - Triangles turn clockwise where y points up, and so the other way on most screens. Where the path folds, as in a bend sharper than the stripe is wide, some are turned over or lie over others, and an arc on the right-hand
  *   side of a round join turns the other way: draw both faces.
  * - Four vertices and four triangles to a begin or a line are always enough, 20 floats, 4 sources and 12 numbers, and with that room nothing is counted before it is written. With a round join or cap that is so of
- *   2^detail times as much. Or ask stipeharbor_measure first.
+ *   2^detail times as much. Or ask stipeharbor_measure first; with dashes it alone knows how many there are.
  *
  * Arcs, of a detail k. With STIPEHARBOR_ROUND_JOIN an arc stands on each side of a join that has two vertices, but not where the stripe overlaps there or folds: 2^k - 1 vertices and as many triangles, also where the path
  * goes straight on. With STIPEHARBOR_ROUND_CAP each end of an open run has 2^(k+1) - 1 of each, and a point alone is a disc of 2^(k+2) vertices and two triangles fewer. An arc's vertices stand behind all
  * others of their run, and have the advancement and the number of the point that they are about; their normals have length 1, so that each lies half a width from it, within one part in a million before its place is rounded.
- * With k = 0 a round join is a bevel, and a round cap a triangle. */
+ * With k = 0 a round join is a bevel, and a round cap a triangle.
+ *
+ * Dashes. Their list has the lengths of dashes and gaps in turn, the first of them a dash's, in the units of the coordinates; an odd list is taken twice over, so that 3 is 3 and 3, and 5 3 2 is 5 3 2 5 3 2. The offset is how far
+ * into that pattern a run begins; each run begins it anew. Both are SVG's stroke-dasharray and stroke-dashoffset. Along (0,0), (8,0) the list 3 draws from 0 to 3 and from 6 to 8; with offset 4 it draws from 2 to 5.
+ * Each dash is an open run of its own: it carries on around the corners inside it, has both its caps, an advancement from 0, and its vertices behind those of the dash before. What lies at a cut has the number of the point that
+ * its edge begins at. A closed run is cut from its first point on, and its last dash does not join its first, also where no cut falls. The merge range leaves points of a dash out, too, and a dash with one point left is
+ * drawn as nothing. A run of which one point is kept has no dashes, and is drawn as without them. */
 
-/* How far a mesh reaches. With STIPEHARBOR_MITER, STIPEHARBOR_BEVEL or STIPEHARBOR_ROUND_JOIN, any cap and any path that is accepted, every x and y that stipeharbor_tessellate writes is
+/* How far a mesh reaches. With STIPEHARBOR_MITER, STIPEHARBOR_BEVEL or STIPEHARBOR_ROUND_JOIN, any cap, any dashes and any path that is accepted, every x and y that stipeharbor_tessellate writes is
  * finite and at most 4194304 in size, so that as a whole number it fits a signed 24-bit unit (-8388608 to 8388607). In fact none is beyond 1892352, and four times
  * such a number still fits. Why: a path that turns back so far that its normal would be longer than some 200 has none there; with every rounding counted a normal is at
  * most 227, and a place is a coordinate, at most 32768, and a normal times half the width, at most 8192. The miter limit plays no part. This is proved
- * (docs/PROVED.md), and so is: every advancement is finite, and does not fall along a run up to its arcs' vertices. These stand behind the others, and begin again.
+ * (docs/PROVED.md), and so is: every advancement is finite, and does not fall along a run, or a dash, up to its arcs' vertices. These stand behind the others, and begin again.
  * Not so with STIPEHARBOR_MITER_CLIP: cut off at a limit of 1024 a stripe of width 16384 reaches x = 8421376, and more. There a caller tests x and y. */
 
 /* Strokes a path: a mesh at the start of `vertices` (five floats each: x, y, the normal's x and y, the advancement), of `sources` (one number to a vertex: where it
@@ -134,7 +148,9 @@ enum stipeharbor_number {
  * A point whose squared distance to the last one kept is below `merge_range` squared, both in floats, is left out, and so are the last ones of a closed run that
  * are so near its first. The least range leaves out what is too near to be drawn; plans traced by hand want more.
  * `detail` is the k of arcs, 0 to STIPEHARBOR_DETAIL_MOST, whatever the join and the cap; where neither is round it changes nothing.
- * Refusals 1 to 4, 6 and 7; one leaves `vertices`, `sources` and `triangles` as they were. How much room there has to be is what stipeharbor_measure answers.
+ * `dashes` has the lengths of dashes and gaps in turn, STIPEHARBOR_DASH_LEAST to STIPEHARBOR_DASH_MOST each and at most STIPEHARBOR_DASH_COUNT_MOST of them; an empty list means no dashes. `dash_offset` is how far into them a run
+ * begins, 0 to STIPEHARBOR_DASH_OFFSET_MOST, whatever the list; where that is empty it changes nothing.
+ * Refusals 1 to 4, 26, 6 and 7, in this order; one leaves `vertices`, `sources` and `triangles` as they were. How much room there has to be is what stipeharbor_measure answers.
  * `answer` gets the place (of 3 and 4, else 0), the number of vertices and the number of triangles (of 0, 6 and 7, else 0). */
 uint32_t stipeharbor_tessellate(
     const uint8_t *verbs, size_t verbs_len,
@@ -145,6 +161,8 @@ uint32_t stipeharbor_tessellate(
     uint32_t line_cap,
     float merge_range,
     uint32_t detail,
+    float dash_offset,
+    const float *dashes, size_t dashes_len,
     float *vertices, size_t vertices_len,
     uint32_t *sources, size_t sources_len,
     uint32_t *triangles, size_t triangles_len,
@@ -152,7 +170,7 @@ uint32_t stipeharbor_tessellate(
 
 /* Measures the mesh that stipeharbor_tessellate would write: with 5 floats and 1 source to a vertex and 3 numbers to a triangle as it answers them, writing is not
  * refused for want of room; with one place less in any list that needs one it is.
- * Refusals 1 to 4.
+ * Refusals 1 to 4, then 26.
  * `answer` gets the place (of 3 and 4, else 0), the number of vertices and the number of triangles (of 0, else 0). */
 uint32_t stipeharbor_measure(
     const uint8_t *verbs, size_t verbs_len,
@@ -163,12 +181,14 @@ uint32_t stipeharbor_measure(
     uint32_t line_cap,
     float merge_range,
     uint32_t detail,
+    float dash_offset,
+    const float *dashes, size_t dashes_len,
     size_t *answer, size_t answer_len);
 
 /* Finds the part of `vertices`, a list that stipeharbor_tessellate wrote for this path and these options, that the run of the number `run` wrote; runs are counted from 0
- * over the begin verbs. The part is vertices[start] .. vertices[start + length - 1]. A run that drew nothing has an empty part, and so has a refusal: start and length are 0.
+ * over the begin verbs, and a run's part has all its dashes. The part is vertices[start] .. vertices[start + length - 1]. A run that drew nothing has an empty part, and so has a refusal: start and length are 0.
  * Only the list's length is looked at, and the list of sources plays no role.
- * Refusals 1 to 4, then 6 where `vertices` is too short for the whole mesh, then 19.
+ * Refusals 1 to 4, then 26, then 6 where `vertices` is too short for the whole mesh, then 19.
  * `answer` gets the place (of 3 and 4, else 0), the part's start and its length, both in floats. */
 uint32_t stipeharbor_run_part(
     const uint8_t *verbs, size_t verbs_len,
@@ -179,6 +199,8 @@ uint32_t stipeharbor_run_part(
     uint32_t line_cap,
     float merge_range,
     uint32_t detail,
+    float dash_offset,
+    const float *dashes, size_t dashes_len,
     size_t run,
     const float *vertices, size_t vertices_len,
     size_t *answer, size_t answer_len);
@@ -259,7 +281,7 @@ uint32_t stipeharbor_check(
     size_t *answer, size_t answer_len);
 
 /* The same, and then whether each triangle but the first shares exactly two vertices with some earlier one: refusal 24. It is so of a mesh of stipeharbor_tessellate where at
- * most one run is drawn, and of each run by itself; two runs have no vertex in common, and the second's first triangle is 24.
+ * most one run, or dash, is drawn, and of each by itself; two have no vertex in common, and the second's first triangle is 24.
  * Earlier triangles are looked at from the latest on, so that a mesh of this library takes one look at each. A list made to be slow takes n * (n - 1) / 2 looks at its n
  * triangles: 40,000 of them some seconds, 200,000 more than a minute. Whoever takes lists from strangers asks first how long they are.
  * `answer` gets the place (of 21 to 24, else 0). */

@@ -7,11 +7,12 @@ const TEXT_LIMIT = 1048576;
 const NUMBERED = 2000;
 
 const WORDS = {
-  1: "an option is outside its range: the width is 1/256 to 16384, the limit 1 to 1024, the merge range 1/128 to 1, the detail 0 to 6",
+  1: "an option is outside its range: the width is 1/256 to 16384, the limit 1 to 1024, the merge range 1/128 to 1, the detail 0 to 6, dashes are up to 16 numbers of 1/4 to 32768, and their offset is 0 to 32768",
   8: "the path text is longer than 1 MiB",
   9: "from here on it is no path text",
   10: "the number that begins here is beyond 32768, or leads there",
   11: "the path has more than 65536 verbs (begins, lines and ends)",
+  26: "the dashes cut the path at more than 65536 points in all",
 };
 
 const $ = (id) => document.getElementById(id);
@@ -36,18 +37,19 @@ const list = (Kind, place, length) => new Kind(library.memory.buffer, place, len
 // The library's answer to a text: a refusal with its number and place, or the path and its mesh.
 function answerTo(text, options) {
   const encoded = new TextEncoder().encode(text).subarray(0, TEXT_LIMIT + 1);
-  const rooms = [12, encoded.length, VERB_LIMIT, 8 * VERB_LIMIT];
-  const [answer, source, verbs, coords] = lend(...rooms);
+  const rooms = [12, encoded.length, VERB_LIMIT, 8 * VERB_LIMIT, 4 * options.dashes.length];
+  const [answer, source, verbs, coords, dashes] = lend(...rooms);
   list(Uint8Array, source, encoded.length).set(encoded);
+  list(Float32Array, dashes, options.dashes.length).set(options.dashes);
   const told = () => list(Uint32Array, answer, 3);
   let number = library.stipeharbor_read(source, encoded.length, verbs, VERB_LIMIT, coords, 2 * VERB_LIMIT, answer, 3);
   if (number !== 0) return { number, place: told()[0], encoded };
   const [, verbCount, coordCount] = told();
-  const stroke = [verbs, verbCount, coords, coordCount, options.width, options.limit, options.join, options.cap, options.merge, options.detail];
+  const stroke = [verbs, verbCount, coords, coordCount, options.width, options.limit, options.join, options.cap, options.merge, options.detail, options.offset, dashes, options.dashes.length];
   number = library.stipeharbor_measure(...stroke, answer, 3);
   const [place, v, t] = told();
   if (number !== 0) return { number, place, encoded };
-  const [, , , , vertices, sources, triangles] = lend(...rooms, 20 * v, 4 * v, 12 * t);
+  const [, , , , , vertices, sources, triangles] = lend(...rooms, 20 * v, 4 * v, 12 * t);
   number = library.stipeharbor_tessellate(...stroke, vertices, 5 * v, sources, v, triangles, 3 * t, answer, 3);
   if (number !== 0) return { number, place: told()[0], encoded };
   return {
@@ -141,7 +143,7 @@ function tell(got) {
     return;
   }
   const [v, t] = [got.vertices.length / 5, got.triangles.length / 3];
-  told.textContent = t === 0 ? "Nothing is drawn: the path has no line, or all its points are one." : `${v} vertices, ${t} triangles`;
+  told.textContent = t === 0 ? "Nothing is drawn: the path has no line, all its points are one, or its dashes leave nothing of it." : `${v} vertices, ${t} triangles`;
   const hidden = $("numbers").checked && v > NUMBERED ? ` Vertex numbers are shown up to ${NUMBERED} vertices.` : "";
   $("room").textContent = `Room: ${5 * v} floats, ${v} sources and ${3 * t} numbers, ${24 * v + 12 * t} bytes.${hidden}`;
 }
@@ -183,7 +185,9 @@ let answered;
 function renew() {
   const text = $("text").value;
   const number = (id) => parseFloat($(id).value);
-  answered = answerTo(text, { width: number("width"), limit: number("limit"), join: number("join"), cap: number("cap"), merge: number("merge"), detail: number("detail") });
+  // What is no number among the dashes becomes a NaN, which the library refuses.
+  const dashes = $("dashes").value.split(/[\s,]+/).filter((word) => word !== "").map(Number);
+  answered = answerTo(text, { width: number("width"), limit: number("limit"), join: number("join"), cap: number("cap"), merge: number("merge"), detail: number("detail"), offset: number("offset"), dashes });
   draw(answered);
   mark(text, answered);
   tell(answered);
@@ -191,16 +195,16 @@ function renew() {
 }
 
 for (const name of Object.keys(EXAMPLES)) $("example").append(new Option(name, name));
-$("example").addEventListener("change", () => {
-  const { text, width } = EXAMPLES[$("example").value];
+function pick() {
+  const { text, width, dashes } = EXAMPLES[$("example").value];
   $("text").value = text;
   $("width").value = width;
+  $("dashes").value = dashes;
   renew();
-});
+}
+$("example").addEventListener("change", pick);
 document.addEventListener("input", (event) => { if (event.target.id !== "example") renew(); });
 $("text").addEventListener("scroll", () => { $("mirror").scrollTop = $("text").scrollTop; });
 $("picture").addEventListener("click", name);
 window.addEventListener("resize", renew);
-$("text").value = EXAMPLES[$("example").value].text;
-$("width").value = EXAMPLES[$("example").value].width;
-renew();
+pick();

@@ -24,7 +24,7 @@ static void short_answers(void)
     for (size_t length = 0; length <= 5; length++) {
         size_t answer[5] = {UNTOUCHED, UNTOUCHED, UNTOUCHED, UNTOUCHED, UNTOUCHED};
         uint32_t number = stipeharbor_tessellate(verbs, 3, coords, 4, 2.0f, 4.0f, STIPEHARBOR_MITER, STIPEHARBOR_BUTT, STIPEHARBOR_MERGE_RANGE_LEAST, 0,
-                                                 NULL, 0, NULL, 0, NULL, 0, length ? answer : NULL, length);
+                                                 0.0f, NULL, 0, NULL, 0, NULL, 0, NULL, 0, length ? answer : NULL, length);
         expect(number == STIPEHARBOR_VERTEX_ROOM, "want of room is told whatever the answer's length");
         for (size_t i = 0; i < 5; i++)
             expect(answer[i] == (i < length && i < 3 ? told[i] : UNTOUCHED), "the answer goes as far as its list");
@@ -38,10 +38,10 @@ static void sources_told(void)
     static const float coords[] = {0.0f, 1.0f, 2.0f, 1.0f};
     float vertices[20];
     uint32_t sources[5] = {9, 9, 9, 9, 9}, triangles[6];
-    expect(stipeharbor_tessellate(verbs, 3, coords, 4, 2.0f, 4.0f, STIPEHARBOR_MITER, STIPEHARBOR_BUTT, STIPEHARBOR_MERGE_RANGE_LEAST, 0, vertices, 20, sources, 3, triangles, 6, NULL, 0)
+    expect(stipeharbor_tessellate(verbs, 3, coords, 4, 2.0f, 4.0f, STIPEHARBOR_MITER, STIPEHARBOR_BUTT, STIPEHARBOR_MERGE_RANGE_LEAST, 0, 0.0f, NULL, 0, vertices, 20, sources, 3, triangles, 6, NULL, 0)
                == STIPEHARBOR_VERTEX_ROOM && sources[0] == 9,
            "a source list that is too short is 6, and left alone");
-    expect(stipeharbor_tessellate(verbs, 3, coords, 4, 2.0f, 4.0f, STIPEHARBOR_MITER, STIPEHARBOR_BUTT, STIPEHARBOR_MERGE_RANGE_LEAST, 0, vertices, 20, sources, 5, triangles, 6, NULL, 0)
+    expect(stipeharbor_tessellate(verbs, 3, coords, 4, 2.0f, 4.0f, STIPEHARBOR_MITER, STIPEHARBOR_BUTT, STIPEHARBOR_MERGE_RANGE_LEAST, 0, 0.0f, NULL, 0, vertices, 20, sources, 5, triangles, 6, NULL, 0)
                == STIPEHARBOR_ACCEPTED,
            "with a record more than is needed there is a mesh");
     for (uint32_t i = 0; i < 4; i++)
@@ -49,8 +49,9 @@ static void sources_told(void)
     expect(sources[4] == 9, "a record that is not asked for is left alone");
 }
 
-/* Width, limit, join, cap, merge range and detail. */
-#define STROKE 2.0f, 4.0f, STIPEHARBOR_MITER, STIPEHARBOR_BUTT, STIPEHARBOR_MERGE_RANGE_LEAST, 0
+/* Width, limit, join, cap, merge range and detail; and with no dashes. */
+#define SOLID 2.0f, 4.0f, STIPEHARBOR_MITER, STIPEHARBOR_BUTT, STIPEHARBOR_MERGE_RANGE_LEAST, 0
+#define STROKE SOLID, 0.0f, NULL, 0
 
 /* Three runs of which the second draws nothing: measured, written with just that room and a place less, and taken apart again. W-210's traps. */
 static void measured(void)
@@ -79,7 +80,8 @@ static void measured(void)
 static void nulls(void)
 {
     expect(stipeharbor_read(NULL, 0, NULL, 0, NULL, 0, NULL, 0) == STIPEHARBOR_ACCEPTED, "the empty text is a path");
-    expect(stipeharbor_tessellate(NULL, 0, NULL, 0, 2.0f, 4.0f, STIPEHARBOR_BEVEL, STIPEHARBOR_SQUARE, STIPEHARBOR_MERGE_RANGE_MOST, STIPEHARBOR_DETAIL_MOST, NULL, 0, NULL, 0, NULL, 0, NULL, 0)
+    expect(stipeharbor_tessellate(NULL, 0, NULL, 0, 2.0f, 4.0f, STIPEHARBOR_BEVEL, STIPEHARBOR_SQUARE, STIPEHARBOR_MERGE_RANGE_MOST, STIPEHARBOR_DETAIL_MOST, STIPEHARBOR_DASH_OFFSET_MOST, NULL, 0, NULL, 0, NULL, 0,
+                                  NULL, 0, NULL, 0)
                == STIPEHARBOR_ACCEPTED,
            "no verbs are a path");
     expect(stipeharbor_root(-1.0f, NULL, 0) == STIPEHARBOR_NO_ROOT, "a negative has no root");
@@ -107,7 +109,7 @@ static void drawing(void)
     float vertices[30];
     uint32_t sources[6], triangles[12];
     size_t answer[3];
-    uint32_t number = stipeharbor_tessellate(verbs, 4, coords, 6, 2.0f, 4.0f, STIPEHARBOR_MITER, STIPEHARBOR_BUTT, STIPEHARBOR_MERGE_RANGE_LEAST, 0, vertices, 30, sources, 6,
+    uint32_t number = stipeharbor_tessellate(verbs, 4, coords, 6, 2.0f, 4.0f, STIPEHARBOR_MITER, STIPEHARBOR_BUTT, STIPEHARBOR_MERGE_RANGE_LEAST, 0, 0.0f, NULL, 0, vertices, 30, sources, 6,
                                              triangles, 12, answer, 3);
     expect(number == STIPEHARBOR_ACCEPTED && answer[1] == 6 && answer[2] == 4, "the header's join has six vertices and four triangles");
     for (size_t i = 0; i < 30; i++)
@@ -129,18 +131,46 @@ static void arcs(void)
     float vertices[50];
     uint32_t sources[10], triangles[24];
     size_t answer[3];
-    uint32_t number = stipeharbor_tessellate(verbs, 3, coords, 4, 2.0f, 4.0f, STIPEHARBOR_MITER, STIPEHARBOR_ROUND_CAP, STIPEHARBOR_MERGE_RANGE_LEAST, 1, vertices, 50, sources, 10,
+    uint32_t number = stipeharbor_tessellate(verbs, 3, coords, 4, 2.0f, 4.0f, STIPEHARBOR_MITER, STIPEHARBOR_ROUND_CAP, STIPEHARBOR_MERGE_RANGE_LEAST, 1, 0.0f, NULL, 0, vertices, 50, sources, 10,
                                              triangles, 24, answer, 3);
     expect(number == STIPEHARBOR_ACCEPTED && answer[1] == 10 && answer[2] == 8 && vertices[20] == -1.0f && vertices[35] == 9.0f, "a line with round caps has ten vertices and eight triangles");
     for (size_t i = 0; i < 10; i++)
         expect(sources[i] == told[i], "an arc's vertices have the side of its first");
     for (size_t i = 0; i < 24; i++)
         expect(triangles[i] == corners[i], "the start cap's arcs follow the first edge, the end cap's the last");
-    expect(stipeharbor_measure(verbs, 3, coords, 4, 2.0f, 4.0f, STIPEHARBOR_ROUND_JOIN, STIPEHARBOR_BUTT, STIPEHARBOR_MERGE_RANGE_LEAST, STIPEHARBOR_DETAIL_MOST, answer, 3) == STIPEHARBOR_ACCEPTED
+    expect(stipeharbor_measure(verbs, 3, coords, 4, 2.0f, 4.0f, STIPEHARBOR_ROUND_JOIN, STIPEHARBOR_BUTT, STIPEHARBOR_MERGE_RANGE_LEAST, STIPEHARBOR_DETAIL_MOST, 0.0f, NULL, 0, answer, 3) == STIPEHARBOR_ACCEPTED
                && answer[1] == 4,
            "a line has no corner to round");
-    expect(stipeharbor_measure(verbs, 3, coords, 4, 2.0f, 4.0f, STIPEHARBOR_MITER, STIPEHARBOR_BUTT, STIPEHARBOR_MERGE_RANGE_LEAST, STIPEHARBOR_DETAIL_MOST + 1, answer, 3) == STIPEHARBOR_OUT_OF_RANGE,
+    expect(stipeharbor_measure(verbs, 3, coords, 4, 2.0f, 4.0f, STIPEHARBOR_MITER, STIPEHARBOR_BUTT, STIPEHARBOR_MERGE_RANGE_LEAST, STIPEHARBOR_DETAIL_MOST + 1, 0.0f, NULL, 0, answer, 3) == STIPEHARBOR_OUT_OF_RANGE,
            "a detail out of range is refused where nothing is round");
+}
+
+/* W-213's: a lane of 8 in dashes of 3, each with its advancement from 0 and cut behind its begin; an offset; a closed run that no cut reaches; both sides of 26, and of its place in the order; a bad list or offset. */
+static void dashes(void)
+{
+    static const uint8_t verbs[] = {STIPEHARBOR_BEGIN, STIPEHARBOR_LINE, STIPEHARBOR_END_OPEN}, closed[] = {STIPEHARBOR_BEGIN, STIPEHARBOR_LINE, STIPEHARBOR_LINE, STIPEHARBOR_END_CLOSED};
+    static const float coords[] = {0.0f, 0.0f, 8.0f, 0.0f}, corner[] = {0.0f, 0.0f, 4.0f, 0.0f, 4.0f, 3.0f}, three[] = {3.0f, 5.0f}, around[] = {16.0f, 0.25f};
+    static const float ends[] = {0, 3, 6, 8}, advancements[] = {0, 3, 0, 2};
+    static const uint32_t told[] = {0, 1, 0, 1, 0, 1, 2, 3};
+    float vertices[40], lane[] = {-16384.0f, 0.0f, 0.25f, 0.0f}, quarter = STIPEHARBOR_DASH_LEAST, many[STIPEHARBOR_DASH_COUNT_MOST + 1];
+    uint32_t sources[8], triangles[12];
+    size_t answer[3];
+    expect(stipeharbor_tessellate(verbs, 3, coords, 4, SOLID, 0.0f, three, 1, vertices, 40, sources, 8, triangles, 12, answer, 3) == STIPEHARBOR_ACCEPTED && answer[1] == 8 && answer[2] == 4, "dashes of 3 in 8 are two");
+    for (size_t i = 0; i < 8; i++)
+        expect(vertices[5 * i] == ends[i / 2] && vertices[5 * i + 4] == advancements[i / 2] && sources[i] == told[i], "a dash is an open run from 0, and a cut has the number of its edge's start");
+    expect(stipeharbor_tessellate(verbs, 3, coords, 4, SOLID, 3.0f, three, 2, vertices, 20, sources, 4, triangles, 6, NULL, 0) == STIPEHARBOR_ACCEPTED && vertices[0] == 5.0f, "offset 3 of 3 5 begins with the gap");
+    expect(stipeharbor_run_part(verbs, 3, coords, 4, SOLID, 0.0f, three, 1, 0, vertices, 40, answer, 3) == STIPEHARBOR_ACCEPTED && answer[1] == 0 && answer[2] == 40, "a run's part has all its dashes");
+    expect(stipeharbor_measure(closed, 4, corner, 6, SOLID, 0.0f, around, 2, answer, 3) == STIPEHARBOR_ACCEPTED && answer[1] == 8 && answer[2] == 6, "a closed run that no cut reaches is not joined");
+    expect(stipeharbor_measure(verbs, 3, lane, 4, SOLID, 0.0f, &quarter, 1, answer, 3) == STIPEHARBOR_ACCEPTED && answer[1] == 2 * STIPEHARBOR_CUT_LIMIT + 4, "65,536 cuts are taken");
+    lane[2] = 0.5f;
+    expect(stipeharbor_tessellate(verbs, 3, lane, 4, SOLID, 0.0f, &quarter, 1, NULL, 0, NULL, 0, NULL, 0, answer, 3) == STIPEHARBOR_TOO_MANY_CUTS && answer[0] == 0 && answer[1] == 0, "one more is told before want of room");
+    lane[3] = 32769.0f;
+    expect(stipeharbor_measure(verbs, 3, lane, 4, SOLID, 0.0f, &quarter, 1, answer, 3) == STIPEHARBOR_COORDINATE && answer[0] == 3, "and behind 4");
+    for (size_t i = 0; i <= STIPEHARBOR_DASH_COUNT_MOST; i++)
+        many[i] = STIPEHARBOR_DASH_MOST;
+    expect(stipeharbor_measure(verbs, 3, coords, 4, SOLID, STIPEHARBOR_DASH_OFFSET_MOST, many, STIPEHARBOR_DASH_COUNT_MOST, answer, 3) == STIPEHARBOR_ACCEPTED, "the most lengths and the greatest are a list");
+    expect(stipeharbor_measure(verbs, 3, coords, 4, SOLID, 0.0f, many, STIPEHARBOR_DASH_COUNT_MOST + 1, answer, 3) == STIPEHARBOR_OUT_OF_RANGE, "one more is none");
+    expect(stipeharbor_measure(verbs, 3, coords, 4, SOLID, -1.0f, NULL, 0, answer, 3) == STIPEHARBOR_OUT_OF_RANGE, "an offset out of range is refused where there are no dashes");
 }
 
 /* A file of one triangle, its count and its second corner's x looked at, and read back; refusals 14 to 17, each changing nothing. */
@@ -227,6 +257,7 @@ int main(void)
     values();
     drawing();
     arcs();
+    dashes();
     stl();
     widths();
     lists();

@@ -1,4 +1,4 @@
-/* How many bytes of the stack each call takes at most, beyond an empty call: random paths of 1 to 400 points with all joins, caps and details, and lists to fit. The stack is painted before a call and looked at behind it.
+/* How many bytes of the stack each call takes at most, beyond an empty call: random paths of 1 to 400 points with all joins, caps and details, every second one dashed, and lists to fit. The stack is painted before a call and looked at behind it.
    It is linked statically, or the linker's own work at a first call would be counted. tools/machines runs it; docs/SPEED.md has what it prints. */
 #define _XOPEN_SOURCE 600
 #include <pthread.h>
@@ -10,7 +10,10 @@
 #define STACK (256 * 1024)
 #define PAINT 0xA5
 #define POINTS 400
-#define MOST (4 * POINTS << STIPEHARBOR_DETAIL_MOST)
+/* Every edge is shorter: no more than one cut falls on it. */
+#define DASH 1500
+/* To a point, to a cut, and to the first point of a closed run, which with dashes comes twice. */
+#define MOST (4 * (2 * POINTS + 1) << STIPEHARBOR_DETAIL_MOST)
 #define PATHS 300
 
 static unsigned char stack[STACK] __attribute__((aligned(4096)));
@@ -20,6 +23,8 @@ static uint32_t sources[MOST], triangles[3 * MOST];
 static uint16_t narrowed[3 * MOST];
 static size_t answer[3], points, text_length, meshed[3];
 static uint32_t seed = 28, join, cap, detail;
+static float dashes[2], offset;
+static size_t dash_count;
 
 /* A linear generator: what matters is that the paths differ. */
 static uint32_t next(uint32_t below)
@@ -42,18 +47,22 @@ static void draw_path(void)
     join = next(4);
     cap = next(3);
     detail = next(1 + STIPEHARBOR_DETAIL_MOST);
+    dash_count = next(2) ? 2 : 0;
+    dashes[0] = (float)(DASH + next(DASH));
+    dashes[1] = (float)(DASH + next(DASH));
+    offset = (float)next(DASH);
 }
 
 static void empty(void) { answer[0] = 0; }
 static void tessellate(void)
 {
-    stipeharbor_tessellate(verbs, points + 1, coords, 2 * points, 20.0f, 4.0f, join, cap, STIPEHARBOR_MERGE_RANGE_LEAST, detail, vertices, 5 * MOST, sources, MOST,
+    stipeharbor_tessellate(verbs, points + 1, coords, 2 * points, 20.0f, 4.0f, join, cap, STIPEHARBOR_MERGE_RANGE_LEAST, detail, offset, dashes, dash_count, vertices, 5 * MOST, sources, MOST,
                            triangles, 3 * MOST, answer, 3);
     memcpy(meshed, answer, sizeof meshed);
 }
 static void tessellate_counted(void)
 {
-    stipeharbor_tessellate(verbs, points + 1, coords, 2 * points, 20.0f, 4.0f, join, cap, STIPEHARBOR_MERGE_RANGE_LEAST, detail, vertices, 5 * meshed[1], sources, meshed[1],
+    stipeharbor_tessellate(verbs, points + 1, coords, 2 * points, 20.0f, 4.0f, join, cap, STIPEHARBOR_MERGE_RANGE_LEAST, detail, offset, dashes, dash_count, vertices, 5 * meshed[1], sources, meshed[1],
                            triangles, 3 * meshed[2], answer, 3);
 }
 static void read(void) { stipeharbor_read(text, text_length, verbs, POINTS + 1, coords, 2 * POINTS, answer, 3); }

@@ -23,6 +23,7 @@ fn drawn(text: &[u8]) -> Result<String, Refusal> {
         verbs,
         coords,
         Options::default(),
+        &[],
         &mut floats,
         &mut sources,
         &mut numbers,

@@ -7,7 +7,7 @@
 //! # #[cfg(feature = "std")] {
 //! use stipeharbor::{stripe_of, Cap, Join, Options};
 //!
-//! let stripe = stripe_of(b"M2 2.5H22.5V9", Options { width: 3.0, ..Options::default() })?;
+//! let stripe = stripe_of(b"M2 2.5H22.5V9", Options { width: 3.0, ..Options::default() }, &[])?;
 //! assert_eq!((stripe.vertices().len(), stripe.triangles().len()), (6, 4));
 //!
 //! let turn = |a: [f32; 2], b: [f32; 2], x, y| (b[0] - a[0]) * (y - a[1]) - (b[1] - a[1]) * (x - a[0]);
@@ -32,10 +32,15 @@
 //! ]);
 //!
 //! let rounded = Options { join: Join::Round, cap: Cap::Round, detail: 1, ..Options::default() };
-//! let stripe = stripe_of(b"M0 0L8 0L8 8", rounded)?;
+//! let stripe = stripe_of(b"M0 0L8 0L8 8", rounded, &[])?;
 //! assert_eq!((stripe.vertices().len(), stripe.triangles().len()), (14, 12));
 //!
-//! let refused = stripe_of(b"M0 0C1 1", Options::default()).unwrap_err();
+//! // Dashes of 3 and gaps of 2, the lane beginning 1 into the first: 0 to 2, and 4 to 7.
+//! let stripe = stripe_of(b"M0 0H9", Options { offset: 1.0, ..Options::default() }, &[3.0, 2.0])?;
+//! let places = stripe.vertices().map(|vertex| vertex.position[0]);
+//! assert_eq!(places.collect::<Vec<_>>(), [0.0, 0.0, 2.0, 2.0, 4.0, 4.0, 7.0, 7.0]);
+//!
+//! let refused = stripe_of(b"M0 0C1 1", Options::default(), &[]).unwrap_err();
 //! assert_eq!(refused.to_string(), "refused 9 4: from byte 4 on, counted from 0, it is no path text");
 //! # }
 //! # Ok::<(), stipeharbor::Refusal>(())
@@ -49,7 +54,7 @@
 //! let verbs = [Verb::Begin, Verb::Line, Verb::EndOpen].map(u8::from);
 //! let coordinates = [0.0, 1.0, 2.0, 1.0];
 //! let (mut vertices, mut sources, mut triangles) = ([0.0; 5 * 4], [Source::default(); 4], [0; 3 * 2]);
-//! let mesh = tessellate(&verbs, &coordinates, Options::default(), &mut vertices, &mut sources, &mut triangles)?;
+//! let mesh = tessellate(&verbs, &coordinates, Options::default(), &[], &mut vertices, &mut sources, &mut triangles)?;
 //! assert_eq!((mesh.vertices, mesh.triangles), (4, 2));
 //! assert_eq!((sources[3].endpoint(), sources[3].side()), (1, Side::Negative));
 //! assert_eq!(stipeharbor::vertices(&vertices).next().unwrap().position, [0.0, 2.0]);
@@ -103,6 +108,16 @@ pub const MERGE_RANGE_LEAST: f32 = 0.007_812_5;
 pub const MERGE_RANGE_MOST: f32 = 1.0;
 /// The finest arcs.
 pub const DETAIL_MOST: u32 = 6;
+/// The most lengths that a list of dashes may have.
+pub const DASH_COUNT_MOST: usize = 16;
+/// The least length of a dash or a gap.
+pub const DASH_LEAST: f32 = 0.25;
+/// The greatest length of a dash or a gap.
+pub const DASH_MOST: f32 = 32_768.0;
+/// The greatest offset into dashes.
+pub const DASH_OFFSET_MOST: f32 = 32_768.0;
+/// The most cuts that dashes may take in a path.
+pub const CUT_LIMIT: usize = 65_536;
 
 /// The shape of a corner. A path that runs back along itself is beyond every limit.
 #[derive(Clone, Copy, Debug, PartialEq, Eq)]
@@ -147,10 +162,13 @@ pub struct Options {
     /// of its own, a round end 2^(k+1) - 1, a point alone 2^(k+2). Where neither join nor cap is
     /// round it changes nothing.
     pub detail: u32,
+    /// How far into its dashes a run begins, 0 to [`DASH_OFFSET_MOST`]. Where there are no dashes it
+    /// changes nothing.
+    pub offset: f32,
 }
 
 /// Those of the program `./stripe`: width 2, miter limit 4, [`Join::Miter`], [`Cap::Butt`] and the
-/// least merge range; and detail 3, for whoever asks for [`Join::Round`] or [`Cap::Round`].
+/// least merge range; detail 3, for whoever asks for [`Join::Round`] or [`Cap::Round`]; and no offset.
 impl Default for Options {
     fn default() -> Options {
         Options {
@@ -160,6 +178,7 @@ impl Default for Options {
             cap: Cap::Butt,
             merge_range: MERGE_RANGE_LEAST,
             detail: 3,
+            offset: 0.0,
         }
     }
 }
@@ -228,10 +247,18 @@ pub struct Path {
 /// Strokes a path. A vertex is five floats (x, y, the normal's x and y, the advancement) and has
 /// its [`Source`] in a list of their own; a triangle is three vertex numbers.
 /// [`measure`] says how many of each there are to be, before a list is lent.
+///
+/// `dashes` has the lengths of dashes and gaps in turn, at most [`DASH_COUNT_MOST`] of
+/// [`DASH_LEAST`] to [`DASH_MOST`] each; an odd list is taken twice over, and an empty one means no
+/// dashes. Each dash is an open run of its own, around the corners inside it, with its own caps and
+/// an advancement from 0; a closed run's last dash does not join its first. A vertex at a cut names
+/// the endpoint that its edge begins at. A dash of which the merge range leaves one point is drawn
+/// as nothing.
 pub fn tessellate(
     verbs: &[u8],
     coordinates: &[f32],
     options: Options,
+    dashes: &[f32],
     vertices: &mut [f32],
     sources: &mut [Source],
     triangles: &mut [u32],
@@ -246,6 +273,8 @@ pub fn tessellate(
         options.cap as u32,
         options.merge_range,
         options.detail,
+        options.offset,
+        dashes,
         vertices,
         raw::records(sources),
         triangles,
@@ -260,7 +289,12 @@ pub fn tessellate(
 
 /// Measures the mesh that [`tessellate`] would write. With exactly this room, five floats and one
 /// source to a vertex and three numbers to a triangle, writing is not refused for want of room.
-pub fn measure(verbs: &[u8], coordinates: &[f32], options: Options) -> Result<Mesh, Refusal> {
+pub fn measure(
+    verbs: &[u8],
+    coordinates: &[f32],
+    options: Options,
+    dashes: &[f32],
+) -> Result<Mesh, Refusal> {
     let mut answer = [0; 3];
     let number = raw::measure(
         verbs,
@@ -271,6 +305,8 @@ pub fn measure(verbs: &[u8], coordinates: &[f32], options: Options) -> Result<Me
         options.cap as u32,
         options.merge_range,
         options.detail,
+        options.offset,
+        dashes,
         &mut answer,
     );
     let [place, n, m] = answer;
@@ -281,13 +317,15 @@ pub fn measure(verbs: &[u8], coordinates: &[f32], options: Options) -> Result<Me
 }
 
 /// The part of a vertex list that [`tessellate`] wrote for this path and these options, that the
-/// run of the number `run`, from 0 over the begin verbs, wrote; empty where it drew nothing.
+/// run of the number `run`, from 0 over the begin verbs, wrote, all its dashes; empty where it drew
+/// nothing.
 /// A list too short for the whole mesh is refused before a number that no run has, with counts of 0:
 /// [`measure`] has them.
 pub fn run_vertices<'a>(
     verbs: &[u8],
     coordinates: &[f32],
     options: Options,
+    dashes: &[f32],
     run: usize,
     vertices: &'a [f32],
 ) -> Result<&'a [f32], Refusal> {
@@ -301,6 +339,8 @@ pub fn run_vertices<'a>(
         options.cap as u32,
         options.merge_range,
         options.detail,
+        options.offset,
+        dashes,
         run,
         vertices,
         &mut answer,
@@ -384,7 +424,7 @@ pub fn check(count: usize, list: &[u32]) -> Result<(), Refusal> {
 }
 
 /// [`check`], and then whether each triangle but the first shares exactly two vertices with some
-/// earlier one. It is so of a mesh of one drawn run, and not so of two.
+/// earlier one. It is so of a mesh of one drawn run, or dash, and not so of two.
 /// A list made to be slow takes time by the square of its length.
 pub fn check_attached(count: usize, list: &[u32]) -> Result<(), Refusal> {
     let mut answer = [0];

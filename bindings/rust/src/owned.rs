@@ -35,11 +35,16 @@ impl Stripe {
 }
 
 /// [`tessellate`] into lists of its own: the mesh is measured first.
-pub fn stripe(verbs: &[u8], coordinates: &[f32], options: Options) -> Result<Stripe, Refusal> {
+pub fn stripe(
+    verbs: &[u8],
+    coordinates: &[f32],
+    options: Options,
+    dashes: &[f32],
+) -> Result<Stripe, Refusal> {
     let Mesh {
         vertices,
         triangles,
-    } = measure(verbs, coordinates, options)?;
+    } = measure(verbs, coordinates, options, dashes)?;
     let mut made = Stripe {
         vertices: vec![0.0; 5 * vertices],
         sources: vec![Source::default(); vertices],
@@ -50,7 +55,15 @@ pub fn stripe(verbs: &[u8], coordinates: &[f32], options: Options) -> Result<Str
         sources,
         triangles,
     } = &mut made;
-    tessellate(verbs, coordinates, options, vertices, sources, triangles)?;
+    tessellate(
+        verbs,
+        coordinates,
+        options,
+        dashes,
+        vertices,
+        sources,
+        triangles,
+    )?;
     Ok(made)
 }
 
@@ -64,9 +77,9 @@ pub fn read_path(text: &[u8]) -> Result<(Vec<u8>, Vec<f32>), Refusal> {
 }
 
 /// The stripe of a path text.
-pub fn stripe_of(text: &[u8], options: Options) -> Result<Stripe, Refusal> {
+pub fn stripe_of(text: &[u8], options: Options, dashes: &[f32]) -> Result<Stripe, Refusal> {
     let (verbs, coordinates) = read_path(text)?;
-    stripe(&verbs, &coordinates, options)
+    stripe(&verbs, &coordinates, options, dashes)
 }
 
 /// [`stl_write`] into a list of its own.

@@ -2,10 +2,12 @@
 
 use core::fmt;
 
-/// Why a call was refused. Where more than one would fit, it is the one of the least number.
+/// Why a call was refused. Where more than one would fit, it is the one of the least number; but 26
+/// comes directly behind 4.
 #[derive(Clone, Copy, Debug, PartialEq, Eq)]
 pub enum Refusal {
-    /// 1: an option is outside its range, or NaN.
+    /// 1: an option is outside its range, or NaN; or there are too many dashes, or one of them is
+    /// outside its range, or NaN.
     OutOfRange,
     /// 2: more than [`VERB_LIMIT`](crate::VERB_LIMIT) verbs.
     TooManyVerbs,
@@ -98,6 +100,8 @@ pub enum Refusal {
     },
     /// 25: a call of the radio behind its closing call, with no new start.
     AfterClose,
+    /// 26: the dashes cut the path at more than [`CUT_LIMIT`](crate::CUT_LIMIT) points in all.
+    TooManyCuts,
 }
 
 impl Refusal {
@@ -139,6 +143,7 @@ impl Refusal {
             23 => Refusal::VertexUnnamed { place },
             24 => Refusal::NotAttached { place },
             25 => Refusal::AfterClose,
+            26 => Refusal::TooManyCuts,
             _ => unreachable!("the library is proved to answer no other number"),
         })
     }
@@ -169,6 +174,7 @@ impl Refusal {
             Refusal::VertexUnnamed { .. } => 23,
             Refusal::NotAttached { .. } => 24,
             Refusal::AfterClose => 25,
+            Refusal::TooManyCuts => 26,
         }
     }
 
@@ -195,7 +201,7 @@ impl fmt::Display for Refusal {
     fn fmt(&self, f: &mut fmt::Formatter<'_>) -> fmt::Result {
         write!(f, "refused {} {}: ", self.number(), self.place())?;
         match *self {
-            Refusal::OutOfRange => write!(f, "an option is outside its range, or NaN"),
+            Refusal::OutOfRange => write!(f, "an option or a dash is outside its range, or NaN, or there are more than {} dashes", crate::DASH_COUNT_MOST),
             Refusal::TooManyVerbs => write!(f, "the path has more than {} verbs", crate::VERB_LIMIT),
             Refusal::Verb { place } => write!(f, "verb {place}, counted from 0, is unknown or misplaced, or the path ends there without an end verb or with coordinates that are not two to each begin or line"),
             Refusal::Coordinate { place } => write!(f, "coordinate {place}, counted from 0, is not finite or too large"),
@@ -218,6 +224,7 @@ impl fmt::Display for Refusal {
             Refusal::VertexUnnamed { place } => write!(f, "vertex {place}, counted from 0, is named by no triangle"),
             Refusal::NotAttached { place } => write!(f, "triangle {place}, counted from 0, shares exactly two vertices with none before it"),
             Refusal::AfterClose => write!(f, "the text is closed already, and no new one was started"),
+            Refusal::TooManyCuts => write!(f, "the dashes cut the path at more than {} points in all", crate::CUT_LIMIT),
         }
     }
 }

@@ -32,18 +32,22 @@ fn a_stripe_is_the_mesh_that_is_lent_room() {
     assert_eq!(verbs, lent[..path.verbs]);
     assert_eq!(coordinates, places[..path.coordinates]);
     for options in options() {
-        let made = stripe_of(TEXT, options).unwrap();
-        let (mut v, mut s, mut t) = ([0.0; 500], [Source::default(); 100], [0; 300]);
-        let mesh = tessellate(&verbs, &coordinates, options, &mut v, &mut s, &mut t).unwrap();
-        assert_eq!(made.vertices, v[..5 * mesh.vertices]);
-        assert_eq!(made.sources, s[..mesh.vertices]);
-        assert_eq!(made.triangles, t[..3 * mesh.triangles]);
+        for dashes in [&[][..], &[7.0, 3.0, 2.0]] {
+            let made = stripe_of(TEXT, options, dashes).unwrap();
+            let (mut v, mut s, mut t) = ([0.0; 5000], [Source::default(); 1000], [0; 3000]);
+            let path = (&verbs, &coordinates);
+            let mesh = tessellate(path.0, path.1, options, dashes, &mut v, &mut s, &mut t);
+            let mesh = mesh.unwrap();
+            assert_eq!(made.vertices, v[..5 * mesh.vertices]);
+            assert_eq!(made.sources, s[..mesh.vertices]);
+            assert_eq!(made.triangles, t[..3 * mesh.triangles]);
+        }
     }
 }
 
 #[test]
 fn parts_are_the_lists_in_order() {
-    let made = stripe_of(b"M0 1L2 1", Options::default()).unwrap();
+    let made = stripe_of(b"M0 1L2 1", Options::default(), &[]).unwrap();
     let places: Vec<[f32; 2]> = made.vertices().map(|vertex| vertex.position).collect();
     assert_eq!(places, [[0.0, 2.0], [0.0, 0.0], [2.0, 2.0], [2.0, 0.0]]);
     let last = vertices(&made.vertices).last().unwrap();
@@ -64,17 +68,17 @@ fn what_is_refused_is_refused_here_too() {
         width: 0.0,
         ..Options::default()
     };
-    assert_eq!(stripe_of(TEXT, flat), Err(Refusal::OutOfRange));
+    assert_eq!(stripe_of(TEXT, flat, &[]), Err(Refusal::OutOfRange));
     assert_eq!(
-        stripe_of(b"M0 0 ,L1 1", flat),
+        stripe_of(b"M0 0 ,L1 1", flat, &[]),
         Err(Refusal::OutOfForm { place: 6 })
     );
     assert_eq!(
-        stripe(&[7], &[], Options::default()),
+        stripe(&[7], &[], Options::default(), &[]),
         Err(Refusal::Verb { place: 0 })
     );
     assert_eq!(
-        stripe(&[], &[], Options::default())
+        stripe(&[], &[], Options::default(), &[])
             .unwrap()
             .triangles()
             .len(),

@@ -6,6 +6,7 @@ use stipeharbor::{narrow, stl_corners, stl_file, stl_read, stl_write, widen};
 use stipeharbor::{raw, Radio, RADIO_WORDS};
 use stipeharbor::{Cap, Join, Mesh, Options, Path, Refusal, BEGIN, END_CLOSED, END_OPEN, LINE};
 use stipeharbor::{Side, Source};
+use stipeharbor::{CUT_LIMIT, DASH_COUNT_MOST, DASH_LEAST, DASH_MOST, DASH_OFFSET_MOST};
 use stipeharbor::{DETAIL_MOST, MERGE_RANGE_LEAST, MERGE_RANGE_MOST, TEXT_LIMIT};
 
 const OPTIONS: Options = Options {
@@ -15,6 +16,7 @@ const OPTIONS: Options = Options {
     cap: Cap::Butt,
     merge_range: MERGE_RANGE_LEAST,
     detail: 0,
+    offset: 0.0,
 };
 const VERBS: [u8; 3] = [BEGIN, LINE, END_OPEN];
 const COORDINATES: [f32; 4] = [0.0, 1.0, 2.0, 1.0];
@@ -25,6 +27,7 @@ fn mesh(verbs: &[u8], coordinates: &[f32], options: Options) -> Result<Mesh, Ref
         verbs,
         coordinates,
         options,
+        &[],
         &mut [0.0; 40],
         sources,
         &mut [0; 24],
@@ -57,7 +60,7 @@ fn of_room() {
     let lend = |floats: usize, sources: usize, numbers: usize| {
         let (mut v, mut t) = (vec![7.0; floats], vec![7; numbers]);
         let mut s = vec![Source::default(); sources];
-        let answer = tessellate(&VERBS, &COORDINATES, OPTIONS, &mut v, &mut s, &mut t);
+        let answer = tessellate(&VERBS, &COORDINATES, OPTIONS, &[], &mut v, &mut s, &mut t);
         assert!(answer.is_ok() || v.iter().all(|&x| x == 7.0) && t.iter().all(|&n| n == 7));
         assert!(answer.is_ok() || s.iter().all(|&s| s == Source::default()));
         answer
@@ -100,20 +103,20 @@ fn of_runs() {
         BEGIN, LINE, END_OPEN, BEGIN, END_OPEN, BEGIN, LINE, END_OPEN,
     ];
     let coordinates = [0.0, 0.0, 8.0, 0.0, 4.0, 4.0, 0.0, 8.0, 8.0, 8.0];
-    let mesh = measure(&verbs, &coordinates, OPTIONS).expect("a path");
+    let mesh = measure(&verbs, &coordinates, OPTIONS, &[]).expect("a path");
     assert_eq!((mesh.vertices, mesh.triangles), (8, 4));
     let mut v = vec![0.0; 5 * mesh.vertices];
     let mut s = vec![Source::default(); mesh.vertices];
     let mut t = vec![0; 3 * mesh.triangles];
-    let written = tessellate(&verbs, &coordinates, OPTIONS, &mut v, &mut s, &mut t);
+    let written = tessellate(&verbs, &coordinates, OPTIONS, &[], &mut v, &mut s, &mut t);
     assert_eq!(written, Ok(mesh));
-    let part = |run, list| run_vertices(&verbs, &coordinates, OPTIONS, run, list);
+    let part = |run, list| run_vertices(&verbs, &coordinates, OPTIONS, &[], run, list);
     assert_eq!(part(0, &v), Ok(&v[..20]));
     assert_eq!(part(1, &v), Ok(&[][..]));
     assert_eq!(part(2, &v), Ok(&v[20..]));
     assert_eq!(part(3, &v), Err(Refusal::NoRun));
     assert_eq!(part(9, &v[..39]).map_err(Refusal::number), Err(6));
-    let first = measure(&verbs[1..], &coordinates, OPTIONS);
+    let first = measure(&verbs[1..], &coordinates, OPTIONS, &[]);
     assert_eq!(first, Err(Refusal::Verb { place: 0 }));
 }
 
@@ -145,7 +148,15 @@ fn of_options() {
             ..OPTIONS
         };
         let (sources, triangles) = (&mut [Source::default(); 10], &mut [0; 30]);
-        let answer = tessellate(&verbs, &traced, options, &mut [0.0; 50], sources, triangles);
+        let answer = tessellate(
+            &verbs,
+            &traced,
+            options,
+            &[],
+            &mut [0.0; 50],
+            sources,
+            triangles,
+        );
         answer.map(|m| (m.vertices, m.triangles))
     };
     assert_eq!(merged(MERGE_RANGE_LEAST), Ok((10, 10)));
@@ -165,7 +176,7 @@ fn of_arcs() {
         ..OPTIONS
     };
     let (mut v, mut s, mut t) = ([0.0; 50], [Source::default(); 10], [0; 24]);
-    let mesh = tessellate(&verbs, &line, rounded, &mut v, &mut s, &mut t).expect("a mesh");
+    let mesh = tessellate(&verbs, &line, rounded, &[], &mut v, &mut s, &mut t).expect("a mesh");
     assert_eq!((mesh.vertices, mesh.triangles), (10, 8));
     let arcs = [
         1, 0, 2, 1, 2, 3, 1, 4, 0, 1, 5, 4, 4, 6, 0, 2, 7, 3, 2, 8, 7, 7, 9, 3,
@@ -175,7 +186,7 @@ fn of_arcs() {
     assert_eq!(v[20..25], [-1.0, 0.0, -1.0, -0.0, 0.0]);
     let detailed = |detail| {
         let options = Options { detail, ..rounded };
-        measure(&[BEGIN, END_CLOSED], &[0.0; 2], options).map(|m| m.vertices)
+        measure(&[BEGIN, END_CLOSED], &[0.0; 2], options, &[]).map(|m| m.vertices)
     };
     assert_eq!(detailed(DETAIL_MOST), Ok(256));
     assert_eq!(detailed(DETAIL_MOST + 1), Err(Refusal::OutOfRange));
@@ -184,7 +195,68 @@ fn of_arcs() {
         detail: 7,
         ..OPTIONS
     };
-    assert_eq!(measure(&verbs, &line, coarse), Err(Refusal::OutOfRange));
+    assert_eq!(
+        measure(&verbs, &line, coarse, &[]),
+        Err(Refusal::OutOfRange)
+    );
+}
+
+/// What is drawn of a lane of length 8: where each dash begins and ends, and its advancements.
+#[test]
+fn of_dashes() {
+    let verbs = [BEGIN, LINE, END_OPEN];
+    let line = [0.0, 0.0, 8.0, 0.0];
+    let dashed = |offset, dashes: &[f32]| {
+        let options = Options { offset, ..OPTIONS };
+        let (mut v, mut s, mut t) = ([0.0; 80], [Source::default(); 16], [0; 48]);
+        let mesh = tessellate(&verbs, &line, options, dashes, &mut v, &mut s, &mut t);
+        let end = |pair: &[f32]| (pair[0], pair[4]);
+        mesh.map(|m| v[..5 * m.vertices].chunks(10).map(end).collect::<Vec<_>>())
+    };
+    let three = [(0.0, 0.0), (3.0, 3.0), (6.0, 0.0), (8.0, 2.0)];
+    assert_eq!(dashed(0.0, &[3.0]), Ok(three.to_vec()));
+    assert_eq!(dashed(3.0, &[3.0, 5.0]), Ok(vec![(5.0, 0.0), (8.0, 3.0)]));
+    assert_eq!(dashed(8.0, &[]), dashed(0.0, &[8.0]));
+    for (offset, dashes) in [
+        (-1.0, &[][..]),
+        (f32::NAN, &[]),
+        (DASH_OFFSET_MOST + 1.0, &[3.0]),
+        (0.0, &[3.0; DASH_COUNT_MOST + 1]),
+        (0.0, &[3.0, DASH_LEAST / 2.0]),
+        (0.0, &[DASH_MOST + 1.0]),
+    ] {
+        assert_eq!(dashed(offset, dashes), Err(Refusal::OutOfRange));
+    }
+    assert!(dashed(DASH_OFFSET_MOST, &[DASH_MOST; DASH_COUNT_MOST]).is_ok());
+}
+
+/// A closed run's last dash does not join its first; all dashes are of their run; and a quarter too
+/// long a lane has a cut too many.
+#[test]
+fn of_cuts() {
+    let corner = [0.0, 0.0, 4.0, 0.0, 4.0, 3.0];
+    let verbs = [BEGIN, LINE, LINE, END_CLOSED];
+    let mesh = measure(&verbs, &corner, OPTIONS, &[16.0, DASH_LEAST]);
+    assert_eq!(mesh.map(|m| (m.vertices, m.triangles)), Ok((8, 6)));
+    let lanes = [0.0, 0.0, 8.0, 0.0, 0.0, 9.0, 2.0, 9.0];
+    let verbs = [VERBS, VERBS].concat();
+    let part =
+        |run| run_vertices(&verbs, &lanes, OPTIONS, &[3.0], run, &[0.0; 60]).map(<[f32]>::len);
+    assert_eq!(
+        (part(0), part(1), part(2)),
+        (Ok(40), Ok(20), Err(Refusal::NoRun))
+    );
+    let cut = |x: f32| measure(&VERBS, &[-16_384.0, 0.0, x, 0.0], OPTIONS, &[DASH_LEAST]);
+    let most = Mesh {
+        vertices: 2 * CUT_LIMIT + 4,
+        triangles: CUT_LIMIT + 2,
+    };
+    assert_eq!(cut(0.25), Ok(most));
+    assert_eq!(cut(0.5), Err(Refusal::TooManyCuts));
+    assert_eq!(
+        (Refusal::TooManyCuts.number(), Refusal::TooManyCuts.place()),
+        (26, 0)
+    );
 }
 
 #[test]
@@ -264,7 +336,7 @@ fn our_meshes_pass() {
         let (verbs, coordinates) = (&verbs[..3 * runs], &coordinates[..4 * runs]);
         let sources = &mut [Source::default(); 8];
         let lists = (&mut vertices, sources, &mut triangles);
-        let mesh = tessellate(verbs, coordinates, OPTIONS, lists.0, lists.1, lists.2);
+        let mesh = tessellate(verbs, coordinates, OPTIONS, &[], lists.0, lists.1, lists.2);
         let mesh = mesh.expect("a mesh");
         let list = &triangles[..3 * mesh.triangles];
         assert_eq!(check(mesh.vertices, list), Ok(()));
@@ -320,7 +392,15 @@ fn of_sources() {
     };
     let mut sources = [Source::default(); 9];
     let lists = (&mut [0.0; 45], &mut [0; 27]);
-    let mesh = tessellate(&verbs, &coordinates, bevel, lists.0, &mut sources, lists.1);
+    let mesh = tessellate(
+        &verbs,
+        &coordinates,
+        bevel,
+        &[],
+        lists.0,
+        &mut sources,
+        lists.1,
+    );
     assert_eq!(mesh.map(|m| m.vertices), Ok(8));
     // The second point is left out and counted, and join 0 names p0.
     let ends: Vec<usize> = sources.iter().map(|s| s.endpoint()).collect();

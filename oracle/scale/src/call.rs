@@ -65,7 +65,7 @@ impl Lists {
         self.vertices.lend(case.vertex_len);
         self.sources.lend(case.source_len);
         self.triangles.lend(case.triangle_len);
-        let options = case.options;
+        let options = &case.options;
         let number = raw::tessellate(
             &case.verbs,
             &case.coordinates,
@@ -75,6 +75,8 @@ impl Lists {
             options.cap.into(),
             options.merge,
             options.detail.into(),
+            options.offset,
+            &options.dashes,
             self.vertices.ours(),
             self.sources.ours(),
             self.triangles.ours(),
@@ -102,7 +104,7 @@ impl Lists {
     }
 
     fn hold_measure(&mut self, case: &MeasureCase) -> Held {
-        let options = case.options;
+        let options = &case.options;
         let number = raw::measure(
             &case.verbs,
             &case.coordinates,
@@ -112,6 +114,8 @@ impl Lists {
             options.cap.into(),
             options.merge,
             options.detail.into(),
+            options.offset,
+            &options.dashes,
             self.answer.ours(),
         );
         let path = Path {
@@ -132,7 +136,7 @@ impl Lists {
         let answer = std::mem::take(&mut self.answer);
         self.answer.lend(3);
         self.hold_mesh(&MeshCase {
-            options: case.options,
+            options: case.options.clone(),
             vertex_len: case.vertex_len,
             source_len: case.vertex_len / 5,
             triangle_len: 3 * (case.vertex_len / 5),
@@ -140,7 +144,7 @@ impl Lists {
             coordinates: case.coordinates.clone(),
         })?;
         self.answer = answer;
-        let options = case.options;
+        let options = &case.options;
         let number = raw::run_part(
             &case.verbs,
             &case.coordinates,
@@ -150,6 +154,8 @@ impl Lists {
             options.cap.into(),
             options.merge,
             options.detail.into(),
+            options.offset,
+            &options.dashes,
             case.run,
             self.vertices.ours(),
             self.answer.ours(),

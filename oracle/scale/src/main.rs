@@ -107,7 +107,7 @@ fn compare(seed: u64, count: usize, name: &str, of: Of) -> bool {
     let start = Instant::now();
     let mut lengths = Rng::new(!seed);
     let mut lists = Lists::default();
-    let mut told = [0u64; 26];
+    let mut told = [0u64; 27];
     let mut done = 0;
     for case in cases(seed, count, of) {
         let held = match (of, &case) {

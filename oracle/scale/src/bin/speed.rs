@@ -61,7 +61,7 @@ fn main() {
         let Input { verbs, coords } = input(kind, points);
         let mut answer = [0usize; 3];
         let mut ours = |v: &mut [f32], s: &mut [u32], t: &mut [u32]| {
-            let (width, limit, join, cap, detail) = (2.0, 4.0, 0, 0, 0);
+            let (width, limit, join, cap, detail, offset) = (2.0, 4.0, 0, 0, 0, 0.0);
             let number = raw::tessellate(
                 &verbs,
                 &coords,
@@ -71,6 +71,8 @@ fn main() {
                 cap,
                 MERGE,
                 detail,
+                offset,
+                &[],
                 v,
                 s,
                 t,
@@ -97,13 +99,15 @@ fn main() {
             cap: 0,
             merge: MERGE,
             detail: 0,
+            offset: 0.0,
+            dashes: Vec::new(),
         };
         let oracle = best(points, || {
             let path = Path {
                 verbs: &verbs,
                 coordinates: &coords,
             };
-            let told = mesh::<Judge>(path, options, &mut vertices, &mut sources, &mut triangles);
+            let told = mesh::<Judge>(path, &options, &mut vertices, &mut sources, &mut triangles);
             assert_eq!(told.number, 0);
         });
         println!("{kind}: {plenty:.1} ns a point with plenty of room, {exact:.1} with exact room, the oracle {oracle:.1}");
