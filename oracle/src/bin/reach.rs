@@ -1,11 +1,12 @@
 //! `reach SEED COUNT`: W-214's search, at the limits' corners. Each of that many corners, an open
-//! run of three points with square caps, is drawn with each join, and the greatest x or y that is
-//! written is kept, with the corner that gave it. Ends with 1 where a join but MiterClip reaches
+//! run of three points with square caps, every second one cut into dashes, is drawn with each join,
+//! and the greatest x or y that is written is kept, with the corner that gave it. Ends with 1 where a join but MiterClip reaches
 //! beyond what is proved of the others.
 
+use oracle::dash::{self, LENGTHS, OFFSETS};
 use oracle::endpoint::{Cap, LineJoin};
 use oracle::gen::{ulps, Rng};
-use oracle::mesh::{Stroke, LIMITS, MERGES, WIDTHS};
+use oracle::mesh::{Options, Stroke, LIMITS, MERGES, WIDTHS};
 use oracle::path::{are_near, Run};
 use oracle::plane::{point, Point};
 use oracle::routines::Reading;
@@ -38,6 +39,8 @@ struct Corner {
     points: [Point; 3],
     half_width: f32,
     limit: f32,
+    /// The lengths of a dash and a gap, and the offset.
+    dashes: Option<([f32; 2], f32)>,
 }
 
 #[derive(Clone, Copy)]
@@ -82,8 +85,8 @@ fn search(seed: u64, count: u64) -> ExitCode {
             );
             println!("  {:?}", f.corner.points.map(|p| (p.x, p.y)));
             println!(
-                "  half width {}, limit {}",
-                f.corner.half_width, f.corner.limit
+                "  half width {}, limit {}, dashes {:?}",
+                f.corner.half_width, f.corner.limit, f.corner.dashes
             );
         }
     }
@@ -150,7 +153,9 @@ impl Corner {
         mesh.vertices.clear();
         mesh.sources.clear();
         mesh.triangles.clear();
-        write_run::<Reading>(&run, &stroke, mesh);
+        for run in self.cut(run, &stroke) {
+            write_run::<Reading>(&run, &stroke, mesh);
+        }
         let most = |from: usize| {
             let sizes = mesh
                 .vertices
@@ -163,6 +168,28 @@ impl Corner {
             reach: most(0),
             normal: most(2),
         }
+    }
+}
+
+impl Corner {
+    /// What is drawn of its run: the dashes that it is cut into, or the run itself.
+    fn cut(&self, run: Run, stroke: &Stroke) -> Vec<Run> {
+        let (dashes, offset) = match self.dashes {
+            Some((lengths, offset)) => (lengths.to_vec(), offset),
+            None => return vec![run],
+        };
+        let options = Options {
+            width: 2.0 * self.half_width,
+            limit: self.limit,
+            join: 0,
+            cap: 1,
+            merge: MERGES.0,
+            detail: DETAIL,
+            offset,
+            dashes,
+        };
+        let pieces = dash::pieces(vec![run], stroke, &options).unwrap_or_default();
+        pieces.into_iter().flatten().collect()
     }
 }
 
@@ -181,7 +208,23 @@ fn any(rng: &mut Rng) -> Corner {
         points: [before, at, after],
         half_width: half_width(rng),
         limit: limit(rng),
+        dashes: dashes(rng, [before, at, after]),
     }
+}
+
+/// None, or lengths of which a dozen at the most are cut from the run, so that many a dash ends
+/// beside its corner.
+fn dashes(rng: &mut Rng, points: [Point; 3]) -> Option<([f32; 2], f32)> {
+    let size = |a: Point, b: Point| (b.x - a.x).hypot(b.y - a.y);
+    let whole = size(points[0], points[1]) + size(points[1], points[2]);
+    let mut length = || {
+        (whole * rng.unit())
+            .max(whole / 8.0)
+            .clamp(LENGTHS.0, LENGTHS.1)
+    };
+    let lengths = [length(), length()];
+    let offset = OFFSETS.1 * rng.unit();
+    rng.one_in(2).then_some((lengths, offset))
 }
 
 /// One that was found, a few steps of f32 off.
