@@ -5,11 +5,14 @@ use lib.Seq.{length-take-le}
 use Rattle.case_inspect.proofs.answer.Statement.{statement}
 use Rattle.case_inspect.proofs.answer.Tie as tie
 
-slice-aggregate-read-list : tie.Need-slice-aggregate-read-list
-slice-aggregate-read-list c = search needs
+read-up-to-requires : tie.Need-read-up-to-requires
+read-up-to-requires c κs = search needs
 
-read-list-requires : tie.Need-read-list-requires
-read-list-requires c κs = search needs
+slice-aggregate-read-number-list : tie.Need-slice-aggregate-read-number-list
+slice-aggregate-read-number-list c = search needs
+
+read-number-list-requires : tie.Need-read-number-list-requires
+read-number-list-requires c κs = search needs
 
 is-end-requires : tie.Need-is-end-requires
 is-end-requires c κs = search needs
@@ -24,7 +27,7 @@ array-share-prefix-list : tie.Need-array-share-prefix-list
 array-share-prefix-list c = search needs
 
 slice-aggregate-answer-call : tie.Need-slice-aggregate-answer-call
-slice-aggregate-answer-call c = let read = c .before .before .before .before .before .read-list in sym (length-take-le (read .result .length) (read .last .1 .1 .0) (array-share-prefix-list (c .before)))
+slice-aggregate-answer-call c = let read = c .before .before .before .before .before .read-number-list in sym (length-take-le (read .result .count) (read .last .1 .1 .1 .0) (array-share-prefix-list (c .before)))
 
 answer-call-requires : tie.Need-answer-call-requires
 answer-call-requires c κs = search needs
@@ -36,8 +39,9 @@ pub answer-spec : {M : Type 1} → statement M
 answer-spec =
     tie.close
     (tie.spec
-    slice-aggregate-read-list
-    read-list-requires
+    read-up-to-requires
+    slice-aggregate-read-number-list
+    read-number-list-requires
     is-end-requires
     bad-line-requires
     returns
