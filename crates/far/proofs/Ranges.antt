@@ -23,6 +23,7 @@ use Rattle.options.specs.declared.Stroke.{Stroke}
 use Rattle.options.specs.declared.StrokeAnswer.{StrokeAnswer}
 use Rattle.rounding.proofs.Rounding.{rounded}
 use Rattle.rounding.proofs.Scales.{one, speck, le-rounded-specks}
+use Rattle.rounding.proofs.Signed.{alike}
 use Rattle.rounding.proofs.Values.{sign, finite-value, mul-round}
 use Rattle.rounding.proofs.Results.{whole, Made, made, made-bounded, Within, bounded-within}
 use Rattle.far.specs.Short.{Half, Range}
@@ -109,10 +110,6 @@ merge-bounds r t =
 
     small : (x y : ℕ) → x * 1 ≤ 1 * 1 * y → x ≤ 1 * y
     small x y h = omega arith
-
-alike : (s : Bool) → unlike s s ≡ false
-alike true = refl
-alike false = refl
 
 one-specks : one ≡ 4194304 * speck
 unfolding one speck

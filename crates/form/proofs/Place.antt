@@ -20,7 +20,7 @@ use Rattle.form.proofs.Taken.{never, form-ends}
 use Rattle.form.proofs.Parse.{taken-form}
 
 -- a text in two parts
-final-append : (m : Mode) (s r : List ℕ) → final m (s ++ r) ≡ final (final m s) r
+pub final-append : (m : Mode) (s r : List ℕ) → final m (s ++ r) ≡ final (final m s) r
 final-append m [] r = refl
 final-append m (b ∷ s) r = final-append (nextOf m (classOf b)) s r
 

@@ -1,7 +1,7 @@
 -- "Writing with exactly the measured room is never refused for room; with one place less in any list that needs one, always": by demand 3. Assumes nothing.
 use Prim.Native.Nat.{ℕ, _*_, _≤_}
 use mathlib.Core.Path.{_≡_, refl, sym, ap, _∙_}
-use mathlib.Core.Bool.{Bool, true, false, _&&_, cond}
+use mathlib.Core.Bool.{Bool, true, false, cond}
 use mathlib.Core.List.{List}
 use native.Mathlib.Omega.{arith}
 use lib.Dec.{eqb}
@@ -9,13 +9,10 @@ use lib.Ieee.{Float}
 use lib.ListN.{length}
 use borrow.Author.Tests.{eqb-true, eqb-false}
 use Rattle.refusals.specs.Numbers.{numberOf, accepted}
-use Rattle.refusals.specs.declared.Refusal.the-variants.{OutOfRange}
-use Rattle.plane.specs.Normal.{pick}
-use Rattle.dashes.specs.Pattern.{patternIn}
-use Rattle.options.specs.Options.{accepting, refusing, inRange, preparedOf, strokeOf}
+use Rattle.options.specs.Options.{strokeOf}
 use Rattle.options.specs.declared.Options.{Options}
 use Rattle.options.specs.declared.Stroke.{Stroke}
-use Rattle.options.specs.declared.StrokeAnswer.{StrokeAnswer}
+use Rattle.options.proofs.Accepted.{stroke-accepted}
 use Rattle.cuts.specs.Checked.{cutCheckedOf}
 use Rattle.pieces.specs.Piece.{Lists}
 use Rattle.runs.specs.Runs.{pathRuns, meshCount, meshTriangles}
@@ -35,17 +32,6 @@ once-accepted number place next = go (eqb number (numberOf accepted)) refl
     go : (t : Bool) → eqb number (numberOf accepted) ≡ t → cond t next (withPlace number place) .number ≡ numberOf accepted → (number ≡ numberOf accepted) × (cond t next (withPlace number place) ≡ next)
     go true p e = (eqb-true _ _ p, refl)
     go false p e = absurd (eqb-false number (numberOf accepted) p e)
-
-abbrev strokedAs : Options → Bool → StrokeAnswer
-strokedAs options t = pick t (accepting (preparedOf options)) (refusing OutOfRange)
-
-stroke-accepted : (options : Options) (ds : List Float) → strokeOf options ds .number ≡ numberOf accepted → strokeOf options ds ≡ accepting (strokeOf options ds .stroke)
-unfolding strokeOf
-stroke-accepted options ds = go (inRange options && patternIn ds (options .offset))
-  where
-    go : (t : Bool) → strokedAs options t .number ≡ numberOf accepted → strokedAs options t ≡ accepting (strokedAs options t .stroke)
-    go true e = refl
-    go false e = absurd (eqb-false 1 0 refl e)
 
 module _ (verbs : List ℕ) (coords : List Float) (options : Options) (ds : List Float) (n m : ℕ) (e : measureOf verbs coords options ds ≡ withCounts (numberOf accepted) n m) where
   abbrev o : Stroke

@@ -5,11 +5,11 @@ use mathlib.Core.Bool.{Bool, true, false, true≢false}
 use mathlib.Core.List.{List, [], _∷_, _++_}
 use native.Mathlib.Omega.{arith}
 use native.Mathlib.Numerals.{add-one}
-use lib.ListN.{length, take, drop, replicate, take-append-drop, length-drop}
+use lib.ListN.{length, take, drop, replicate, take-append-drop, length-append, length-drop}
 use lib.Seq.{length-take-le}
 use borrow.Author.Tests.{ne-eqb}
 use Rattle.path.specs.Verbs.{begin, line, names, named, placed, firstMisplaced, endsInside, pointCount}
-use Rattle.path.specs.Runs.{endOf, Formed, done, begins, goes, ends, runsFrom, verbsOf, pointsOf}
+use Rattle.path.specs.Runs.{endOf, Formed, done, begins, goes, ends, Run, runsFrom, verbsOf, pointsOf}
 use Rattle.path.proofs.Placing.{placed-unknown}
 
 abbrev inRun : ℕ → Bool
@@ -104,3 +104,9 @@ module _ {A : Type 0} where
 
     pub runs-points : pointsOf (runsFrom 0 vs ps) ≡ ps
     runs-points = points-from f ps (omega arith)
+
+-- the points of runs, in two parts
+pub points-append : {A : Type 0} (xs ys : List (Run A)) → length (pointsOf (xs ++ ys)) ≡ length (pointsOf xs) + length (pointsOf ys)
+unfolding pointsOf
+points-append [] ys = omega arith
+points-append (x ∷ xs) ys = simp length-append (omega (arith, points-append xs ys))

@@ -23,7 +23,7 @@ use Rattle.form.specs.Form.{Text, text, HasForm, Wrong}
 use Rattle.form.specs.Machine.{start, rowOf, endsHere, endsBefore, axisAt, isInside, nextOf, final, isLost, mayEnd}
 use Rattle.form.proofs.Taken.{never, form-ends}
 use Rattle.form.proofs.Parse.{taken-form}
-use Rattle.form.proofs.Place.{lost-final, lost-end, begins-when, form-taken}
+use Rattle.form.proofs.Place.{final-append, lost-final, lost-end, begins-when, form-taken}
 use Rattle.values.specs.declared.events.Event.{Event}
 use Rattle.values.specs.declared.events.Event.the-variants.{Nothing}
 use Rattle.values.specs.declared.state.Called.{Called}
@@ -45,10 +45,6 @@ use Rattle.radio.proofs.Since.{goingOf, since, isLetter, ends-here, beh
 use Rattle.radio.proofs.Ends.{numberOf, bounded, shared, one-here}
 
 -- ---- the machine along a text
-final-append : (m : Mode) (s r : List ℕ) → final m (s ++ r) ≡ final (final m s) r
-final-append m [] r = refl
-final-append m (b ∷ s) r = final-append (nextOf m (classOf b)) s r
-
 pub alive : (u r : List ℕ) → HasForm (u ++ r) → isLost (final start u) ≡ false
 alive u r f = go (isLost (final start u)) refl
   where

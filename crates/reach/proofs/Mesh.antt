@@ -1,7 +1,7 @@
 -- From the mesh to the list: where the call answers 0, the list that it leaves holds the vertices of all runs, five floats to each, in order. Assumes nothing.
 use mathlib.Core.Path.{_≡_, refl, sym, ap, _∙_, subst}
 use Prim.Native.Nat.{ℕ, zero, suc, _+_, _*_, _/_, _≤_, _<_}
-use mathlib.Core.Bool.{Bool, true, false, _&&_, cond, true≢false}
+use mathlib.Core.Bool.{Bool, true, false, cond, true≢false}
 use mathlib.Core.List.{List, [], _∷_}
 use native.Mathlib.Omega.{arith}
 use borrow.Author.Tests.{ltb-false, eqb-true}
@@ -11,14 +11,12 @@ use lib.ListN.{length, take, getD}
 use lib.Seq.{getD-take}
 use Rattle.lists.specs.Over.{flat}
 use Rattle.refusals.specs.Numbers.{numberOf, accepted, vertexRoom, triangleRoom}
-use Rattle.refusals.specs.declared.Refusal.the-variants.{OutOfRange}
-use Rattle.plane.specs.Normal.{pick}
 use Rattle.endpoint.specs.declared.Endpoint.{Endpoint}
-use Rattle.options.specs.Options.{inRange, preparedOf, accepting, refusing, strokeOf}
+use Rattle.options.specs.Options.{strokeOf}
 use Rattle.options.specs.declared.Options.{Options}
 use Rattle.options.specs.declared.Stroke.{Stroke}
+use Rattle.options.proofs.Accepted.{stroke-accepted}
 use Rattle.path.specs.Runs.{Run}
-use Rattle.dashes.specs.Pattern.{patternIn}
 use Rattle.cuts.specs.Checked.{cutCheckedOf}
 use Rattle.pieces.specs.Piece.{Vertex, Lists, flatV}
 use Rattle.runs.specs.Runs.{pathRuns, meshVertices, meshCount, meshTriangles}
@@ -63,15 +61,6 @@ once-accepted l number place next e = go (eqb number (numberOf accepted)) refl e
         → (number ≡ numberOf accepted) × (next .answer .number ≡ numberOf accepted)
     go true f e = (eqb-true number (numberOf accepted) f, e)
     go false f e = absurd (true≢false (rw e at f))
-
-stroke-accepted : (options : Options) (ds : List Float) → strokeOf options ds .number ≡ numberOf accepted → strokeOf options ds ≡ accepting (strokeOf options ds .stroke)
-unfolding strokeOf
-stroke-accepted options ds e = go (inRange options && patternIn ds (options .offset)) e
-  where
-    go : (t : Bool) → pick t (accepting (preparedOf options)) (refusing OutOfRange) .number ≡ numberOf accepted
-        → pick t (accepting (preparedOf options)) (refusing OutOfRange) ≡ accepting (pick t (accepting (preparedOf options)) (refusing OutOfRange) .stroke)
-    go true e = refl
-    go false e = absurd (omega (arith, e))
 
 roomed : (n m v t : ℕ) → roomedOf n m v t .number ≡ numberOf accepted → (n ≤ v) × (m ≤ t)
 roomed n m v t e = go (ltb v n) (ltb t m) refl refl e

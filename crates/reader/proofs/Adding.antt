@@ -1,10 +1,9 @@
 -- Events put in turn: counts and lists. In this order: one event, all of them where no number is too large, and where one is. Assumes nothing.
-use Prim.Native.Nat.{ℕ, zero, suc, _+_, _≤_, min}
+use Prim.Native.Nat.{ℕ, zero, suc, _+_, _≤_}
 use mathlib.Core.Path.{_≡_, refl, sym, ap, _∙_}
 use mathlib.Core.Bool.{Bool, true, false}
 use mathlib.Core.List.{List, [], _∷_, _++_}
 use native.Mathlib.Omega.{arith}
-use lib.Ieee.{Float}
 use lib.ListN.{length, length-append}
 use Rattle.form.proofs.Taken.{never}
 use Rattle.lists.specs.Over.{over, putAt}
@@ -12,10 +11,9 @@ use Rattle.lists.proofs.Laws.{put-append, put-none, length-put}
 use Rattle.values.specs.declared.events.Event.{Event}
 use Rattle.values.specs.declared.events.Event.the-variants.{Nothing, Begin, Line, EndOpen, EndClosed, Beyond}
 use Rattle.values.specs.Events.{put}
-use Rattle.reader.specs.declared.counts.Counts.{Counts}
 use Rattle.reader.specs.declared.counts.Found.{Found}
 use Rattle.reader.specs.declared.counts.Found.the-variants.{Nowhere, At}
-use Rattle.reader.specs.Counts.{verbOf, coordsAt, largeOf, orElse, verbsOf, coordsOf, firstLarge, allPlaces, capped, verbCount, coordCount, addedOf}
+use Rattle.reader.specs.Counts.{verbOf, coordsAt, largeOf, orElse, verbsOf, coordsOf, firstLarge, allPlaces, capped, verbCount, coordCount}
 use Rattle.reader.specs.Pass.{Sheet, eventPut}
 
 -- no count is beyond the places that there are

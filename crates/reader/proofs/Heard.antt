@@ -1,10 +1,10 @@
 -- What bytes call for, up to one that is out of form; and that a pass over them puts this. Assumes nothing.
 use Prim.Native.Nat.{ℕ, suc, _+_, _-_, _*_, _≤_}
-use mathlib.Core.Path.{_≡_, refl, sym, ap, _∙_, subst}
+use mathlib.Core.Path.{_≡_, refl, sym, ap, _∙_}
 use mathlib.Core.Bool.{Bool, true, false, cond}
 use mathlib.Core.List.{List, [], _∷_, _++_}
 use native.Mathlib.Omega.{arith}
-use lib.ListN.{length, length-append}
+use lib.ListN.{length}
 use Rattle.form.specs.declared.classes.Class.the-variants.{Command}
 use Rattle.form.specs.declared.classes.Letter.the-variants.{Move}
 use Rattle.form.specs.declared.machine.Mode.{Mode}
@@ -18,7 +18,7 @@ use Rattle.values.specs.declared.state.Called.{Called}
 use Rattle.values.specs.declared.state.State.{State}
 use Rattle.values.specs.Events.{put}
 use Rattle.values.specs.State.{calledBy, calledOf, stepOf, inTurn, eventsFrom}
-use Rattle.reader.specs.Counts.{verbOf, coordsAt, verbsOf, coordsOf}
+use Rattle.reader.specs.Counts.{verbsOf, coordsOf}
 use Rattle.reader.specs.Pass.{Sheet, eventPut, calledPut, isOver, Passed, sheetOf, stepped, passOf}
 use Rattle.reader.specs.Read.{endByte}
 use Rattle.reader.proofs.Adding.{Counted, counted-put, putAll, all-put}

@@ -32,7 +32,7 @@ use Rattle.reader.specs.declared.counts.Found.{Found}
 use Rattle.reader.specs.declared.counts.Found.the-variants.{Nowhere, At}
 use Rattle.reader.specs.declared.pass.Passage.{Passage}
 use Rattle.reader.specs.Answer.{textLimit, withCounts, withPlace, isPath, isCrowded, largeOr, roomOf, countedOf, judgedOf}
-use Rattle.reader.specs.Counts.{noCounts, firstLarge, verbsOf, coordsOf}
+use Rattle.reader.specs.Counts.{noCounts, verbsOf, coordsOf}
 use Rattle.reader.specs.Outcome.{Outcome, refused, written}
 use Rattle.reader.specs.Pass.{Sheet, isOver, Passed, sheetOf, passOf}
 use Rattle.reader.specs.Read.{endByte, starting, throughOf, readBy, outcomeOf}

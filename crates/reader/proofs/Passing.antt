@@ -11,9 +11,7 @@ use lib.Seq.{drop-cons}
 use Rattle.form.specs.Machine.{isLost}
 use Rattle.form.proofs.Taken.{never}
 use Rattle.lists.proofs.Laws.{length-put}
-use Rattle.values.specs.declared.events.Event.{Event}
 use Rattle.values.specs.declared.state.Called.{Called}
-use Rattle.values.specs.declared.state.State.{State}
 use Rattle.values.specs.declared.state.Took.{Took}
 use Rattle.values.specs.State.{calledOf, stepOf, tookOf}
 use Rattle.reader.specs.declared.pass.Passage.{Passage}

@@ -1,28 +1,14 @@
 -- Elements written at a place of a list that may end before they do. Assumes nothing.
-use Prim.Native.Nat.{ℕ, zero, suc, _-_, _≤_, _<_, min}
-use mathlib.Core.Path.{_≡_, refl, ap, _∙_}
+use Prim.Native.Nat.{ℕ, zero, suc, _-_, _≤_, min}
+use mathlib.Core.Path.{_≡_, ap, _∙_}
 use mathlib.Core.List.{List, [], _∷_}
 use native.Mathlib.Omega.{arith}
-use lib.ListN.{length, set, getD}
+use lib.ListN.{length}
 use borrow.Rule.Slice.PartMut.{midOf, putMid}
 use Rattle.lists.specs.Over.{over, putAt}
 use Rattle.lists.proofs.Parts.{put-part}
 
 module _ {A : Type 0} where
-  -- nothing is written to no list
-  pub put-none : (vs xs : List A) → length xs < 1 → xs ≡ over vs xs
-  unfolding over
-  put-none [] xs h = refl
-  put-none (v ∷ vs) [] h = refl
-  put-none (v ∷ vs) (x ∷ xs) h = absurd (omega arith)
-
-  pub put-first : (a : A) (vs xs : List A) → 1 ≤ length xs → length xs < 2 → set xs 0 a ≡ over (a ∷ vs) xs
-  unfolding over
-  put-first a vs [] g h = absurd (omega arith)
-  put-first a [] (x ∷ xs) g h = refl
-  put-first a (v ∷ vs) (x ∷ []) g h = refl
-  put-first a (v ∷ vs) (x ∷ y ∷ xs) g h = absurd (omega arith)
-
   -- from a place behind the end on, or from the end
   clamped : (k : ℕ) (vs xs : List A) → putAt (min k (length xs)) vs xs ≡ putAt k vs xs
   unfolding putAt over

@@ -5,13 +5,14 @@ use Prim.Native.Nat.{ℕ, zero, suc, _+_, _*_, _^_, _≤_, _<_}
 use native.Mathlib.Nat.{le-of-lt, lt-of-not-le, mul-le-mul, mul-pos}
 use native.Mathlib.Decide.{decLe}
 use native.Mathlib.Omega.{arith}
-use mathlib.Core.Bool.{Bool, true, false, true≢false}
+use mathlib.Core.Bool.{Bool, true, false}
 use lib.Dec.{T, lit<}
 use lib.Ieee.{Float, nan, inf, fin, binary32, unlike, fits, mul, div}
 use lib.Ieee.Fits.{add-fits}
 use lib.Ieee.Exact.{HasValue}
 use Rattle.root.specs.Root.{rootable, units}
 use Rattle.root.specs.Compute.{rootOf}
+use Rattle.root.proofs.Patterns.{value-rootable}
 use Rattle.root.proofs.Units.{units-of, units-exact}
 use Rattle.root.proofs.Computed.{root-is, close}
 use Rattle.rounding.proofs.Scales.{one, one-pos}
@@ -32,12 +33,6 @@ units-value nan f p = absurd p
 units-value (inf s) f p = absurd p
 units-value (fin true m e) f p = absurd p
 units-value (fin false m e) f p = (refl, sym (units-exact (fin false m e) f p))
-
-value-rootable : (x : Float) (a c : ℕ) → HasValue x false a c → T (rootable x)
-value-rootable nan a c v = absurd v
-value-rootable (inf s) a c v = absurd v
-value-rootable (fin true m e) a c v = absurd (true≢false (v .0))
-value-rootable (fin false m e) a c v = tt
 
 three-high : (r x : ℕ) → 16777215 * r * (16777215 * r) ≤ 281474976710656 * x → 16777216 * (r * r) ≤ 16777219 * x
 three-high r x h = omega arith

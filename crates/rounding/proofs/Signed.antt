@@ -3,6 +3,16 @@ use mathlib.Core.Path.{_≡_, refl, ap}
 use Prim.Native.Nat.{ℕ, _+_, _*_, _≤_}
 use native.Mathlib.Omega.{arith}
 use mathlib.Core.Bool.{Bool, true, false, not}
+use lib.Ieee.{unlike}
+
+-- the sign of a square, and of a product by one that is not negative
+pub alike : (s : Bool) → unlike s s ≡ false
+alike true = refl
+alike false = refl
+
+pub same-sign : (s : Bool) → unlike s false ≡ s
+same-sign true = refl
+same-sign false = refl
 
 -- of ±a the part above zero, and the part below
 abbrev pub above : Bool → ℕ → ℕ

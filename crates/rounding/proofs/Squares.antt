@@ -1,18 +1,18 @@
 -- The f32 squared length of a vector, by the sizes of its components: each square is rounded, and so is their sum. Of its size: the bounds that it
 -- has from its components, and that it is no less than a quarter of a component's square. Assumes nothing.
-use mathlib.Core.Path.{_≡_, refl, sym, ap, _∙_, subst}
+use mathlib.Core.Path.{_≡_, sym, ap, _∙_, subst}
 use mathlib.Core.Logic.{_⊎_, inl, inr}
 use Prim.Native.Nat.{ℕ, suc, _+_, _*_, _^_, _≤_, _<_}
 use native.Mathlib.Nat.{le-trans, le-of-eq, le-of-lt, lt-of-not-le, mul-assoc, mul-le-mul, mul-le-mul-right, le-of-mul-le-mul-right, mul-mul-mul-comm, mul-pos, two-pow-succ}
 use native.Mathlib.Decide.{decLe}
 use native.Mathlib.Omega.{arith}
-use mathlib.Core.Bool.{Bool, true, false}
+use mathlib.Core.Bool.{Bool, false}
 use lib.Pow.{pow-add}
-use lib.Ieee.{Float, binary32, unlike, round, add, sub, mul}
+use lib.Ieee.{Float, binary32, round, add, sub, mul}
 use lib.Ieee.Exact.{HasValue}
 use Rattle.rounding.proofs.Rounding.{rounded, le-twice-rounded}
 use Rattle.rounding.proofs.Scales.{one, grain, speck, one-pos, grains-square, rounded-le-specks, le-rounded-specks}
-use Rattle.rounding.proofs.Signed.{differences-size}
+use Rattle.rounding.proofs.Signed.{alike, differences-size}
 use Rattle.rounding.proofs.Values.{mul-round, add-plain, sub-round}
 use Rattle.rounding.proofs.Results.{whole, power, Made, made}
 use Rattle.rounding.proofs.Differences.{Gap, distance}
@@ -33,10 +33,6 @@ one-one-pos = mul-pos one-pos one-pos
 
 square-round : (x : Float) (s : Bool) (g : ℕ) → HasValue x s g one → mul binary32 x x ≡ round binary32 false (g * g) (one * one)
 square-round x s g v = mul-round x x s s g one g one one-pos one-pos v v ∙ ap (λ (t : Bool). round binary32 t (g * g) (one * one)) (alike s)
-  where
-    alike : (s : Bool) → unlike s s ≡ false
-    alike true = refl
-    alike false = refl
 
 module _ (j : ℕ) (J : suc (j + j) ≤ 100) where
   square-made : (x : Float) (s : Bool) (g : ℕ) → HasValue x s g one → g ≤ 2 ^ j * one → Made (mul binary32 x x) false (g * g) (one * one) (2 ^ (j + j))

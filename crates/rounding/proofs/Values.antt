@@ -133,7 +133,7 @@ module _ (A B k a b c : ℕ) (K : 0 < k) (C : 0 < c) (p : A * c ≡ a * k) (q : 
   sum-round true false = from-under (ltb A B) (ltb B A) (ltb→lt A B) (nltb→le A B) (nltb→le B A)
 
 -- two fractions x / p and y / q at the scale of both
-levelled : (x y p q a b c : ℕ) → x * c ≡ a * p → y * c ≡ b * q → (x * q * c ≡ a * (p * q)) × (y * p * c ≡ b * (p * q))
+pub levelled : (x y p q a b c : ℕ) → x * c ≡ a * p → y * c ≡ b * q → (x * q * c ≡ a * (p * q)) × (y * p * c ≡ b * (p * q))
 levelled x y p q a b c h k = (
   mul-right-comm x q c ∙ ap (λ (i : ℕ). i * q) h ∙ mul-assoc a p q,
   mul-right-comm y p c ∙ ap (λ (i : ℕ). i * p) k ∙ mul-assoc b q p ∙ ap (λ (i : ℕ). b * i) (mul-comm q p),

@@ -15,6 +15,7 @@ use Rattle.plane.specs.Normal.{pick}
 use Rattle.pieces.specs.declared.Place.{Place}
 use Rattle.path.specs.Runs.{Run, runsFrom, pointsOf}
 use Rattle.path.specs.Verbs.{names, named, pointCount}
+use Rattle.path.proofs.Runs.{points-append}
 use Rattle.runs.specs.Cursor.{startOf, movedOf, currentOf, endedOf}
 use Rattle.runs.specs.Passes.{Paired, Inside}
 use Rattle.runs.specs.declared.cursor.Cursor.{Cursor}
@@ -68,11 +69,6 @@ module _ (g : Cursor) (v : ℕ) (k : Place) (ps : List Endpoint) where
       go : (t : Bool) → g .first .0 + length (pointsOf (cond t [] (currentOf g v ps ∷ []))) ≤ goesTo t .first .0
       go true = omega arith
       go false = omega (arith, one)
-
-points-append : (xs ys : List (Run Endpoint)) → length (pointsOf (xs ++ ys)) ≡ length (pointsOf xs) + length (pointsOf ys)
-unfolding pointsOf
-points-append [] ys = omega arith
-points-append (x ∷ xs) ys = simp length-append (omega (arith, points-append xs ys))
 
 count-cons : (v : ℕ) (vs : List ℕ) → pointCount (v ∷ vs) ≡ named v + pointCount vs
 unfolding pointCount

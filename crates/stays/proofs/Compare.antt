@@ -1,7 +1,7 @@
 -- Floats that are not negative: their difference, where it is not negative either (`sub-plain`), and their comparisons by their values. Assumes nothing.
 use mathlib.Core.Path.{_≡_, sym, ap, _∙_, subst}
 use Prim.Native.Nat.{ℕ, _-_, _*_, _≤_, _<_}
-use native.Mathlib.Nat.{lt-irrefl, mul-lt-mul-of-pos-right, mul-sub, le-trans, le-of-eq, le-of-lt, lt-of-not-le, lt-of-lt-of-le, mul-assoc, mul-comm, mul-right-comm, mul-le-mul-right, le-of-mul-le-mul-right, mul-pos}
+use native.Mathlib.Nat.{lt-irrefl, mul-lt-mul-of-pos-right, mul-sub, le-trans, le-of-eq, le-of-lt, lt-of-not-le, lt-of-lt-of-le, mul-comm, mul-le-mul-right, le-of-mul-le-mul-right, mul-pos}
 use native.Mathlib.Decide.{decLe}
 use native.Mathlib.Omega.{arith}
 use mathlib.Core.Bool.{cond, Bool, true, false, _&&_, _||_, true≢false, false≢true}
@@ -12,14 +12,7 @@ use lib.Ieee.Exact.{HasValue}
 use lib.Ieee.Scale.{round-same}
 use lib.Ieee.Order.{le-of-values}
 use lib.Ieee.Bits.{is-true}
-use Rattle.rounding.proofs.Values.{lt-value}
-
--- two fractions x / p and y / q at the scale of both
-levelled : (x y p q a b c : ℕ) → x * c ≡ a * p → y * c ≡ b * q → (x * q * c ≡ a * (p * q)) × (y * p * c ≡ b * (p * q))
-levelled x y p q a b c h k = (
-  mul-right-comm x q c ∙ ap (λ (i : ℕ). i * q) h ∙ mul-assoc a p q,
-  mul-right-comm y p c ∙ ap (λ (i : ℕ). i * p) k ∙ mul-assoc b q p ∙ ap (λ (i : ℕ). b * i) (mul-comm q p),
-)
+use Rattle.rounding.proofs.Values.{levelled, lt-value}
 
 -- ---- a difference
 taken : (A B k a b c : ℕ) → 0 < k → 0 < c → A * c ≡ a * k → B * c ≡ b * k → round binary32 false (A - B) k ≡ round binary32 false (a - b) c

@@ -17,7 +17,7 @@ use Rattle.plane.specs.Vector.{plusOf, minusOf, timesOf}
 use Rattle.path.specs.Coordinates.{coordinateIn}
 use Rattle.rounding.proofs.Rounding.{rounded, le-rounded}
 use Rattle.rounding.proofs.Scales.{one, grain, one-pos, rounded-le-ones, rounded-le-power, rounded-error-grains}
-use Rattle.rounding.proofs.Signed.{Sums, sums-times}
+use Rattle.rounding.proofs.Signed.{same-sign, Sums, sums-times}
 use Rattle.rounding.proofs.Values.{scaled-value, round-value, mul-round, div-round, add-round}
 use Rattle.rounding.proofs.Results.{Within, bounded-within}
 use Rattle.rounding.proofs.Differences.{gap}
@@ -153,10 +153,6 @@ half-up x c C h = subst (λ (z : ℕ). rounded (x * 2 ^ 149) (c * 2 ^ 149) ≤ z
         let d : 8 * (g * c) ≡ c * j = let v : c * j ≡ c * (8 * g) = ap (λ (z : ℕ). c * z) q in omega arith in
         let e : (65536 * (c * o) + 8 * (g * c)) * o ≡ (16777216 * (c * j) + c * j) * o = ap (λ (z : ℕ). z * o) (ap (λ (z : ℕ). z + 8 * (g * c)) b ∙ ap (λ (z : ℕ). 16777216 * (c * j) + z) d) in
         omega arith
-
-same-sign : (r : Bool) → unlike r false ≡ r
-same-sign true = refl
-same-sign false = refl
 
 pub inside : (f t k : Float) (K : ℕ) → Within 32768 f → Within 32768 t → Units k K → K ≤ one → Within 32768 (add binary32 f (mul binary32 (sub binary32 t f) k))
 inside f t k K F G v h =

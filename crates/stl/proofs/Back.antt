@@ -70,7 +70,7 @@ module _ (c : Point) (s : Sound c) (p r : List ℕ) (k : ℕ) (l : length p ≡ 
 abbrev pub SoundFacet : Facet → Type 0
 SoundFacet f = Sound (f .a) × Sound (f .b) × Sound (f .c)
 
-length-facet : (f : Facet) → length (facetBytes f) ≡ 50
+pub length-facet : (f : Facet) → length (facetBytes f) ≡ 50
 unfolding facetBytes cornerBytes le32
 length-facet f = refl
 

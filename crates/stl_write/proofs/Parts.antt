@@ -22,10 +22,6 @@ pub length-head : (n : ℕ) → length (zeros 80 ++ le32 n) ≡ 84
 unfolding le32
 length-head n = refl
 
-pub length-facet : (f : Facet) → length (facetBytes f) ≡ 50
-unfolding facetBytes cornerBytes le32
-length-facet f = refl
-
 pub length-24 : (a : Point) → length (zeros 12 ++ cornerBytes a) ≡ 24
 unfolding cornerBytes le32
 length-24 a = refl

@@ -1,13 +1,13 @@
 -- The operations of f32 by the values of their operands, in units, each with its relative error. Assumes nothing.
-use mathlib.Core.Path.{_≡_, refl, sym, subst}
+use mathlib.Core.Path.{_≡_, sym, subst}
 use Prim.Native.Nat.{ℕ, _+_, _*_, _≤_, _<_}
 use native.Mathlib.Nat.{le-trans, one-mul, mul-pos}
-use mathlib.Core.Bool.{Bool, true, false, not}
+use mathlib.Core.Bool.{Bool, false, not}
 use lib.Ieee.{Float, binary32, unlike, round, add, sub, mul, div}
 use lib.Ieee.Exact.{HasValue}
 use Rattle.rounding.proofs.Rounding.{rounded}
 use Rattle.rounding.proofs.Scales.{one, one-pos}
-use Rattle.rounding.proofs.Signed.{Sums, sums-le}
+use Rattle.rounding.proofs.Signed.{alike, same-sign, Sums, sums-le}
 use Rattle.rounding.proofs.Values.{mul-round, div-round, Rounds, add-round, add-plain, sub-round}
 use Rattle.rounding.proofs.Results.{Limit, made}
 use Rattle.units.proofs.Relative.{Rel, relative, cancel}
@@ -36,18 +36,10 @@ module _ (x y : Float) (s t : Bool) (a b k : ℕ) (K : Limit k) (v : HasValue x 
 -- of one by itself
 pub square : (x : Float) (s : Bool) (a k : ℕ) → Limit k → HasValue x s a one → a * a ≤ k * (one * one) → Close (mul binary32 x x) false one (a * a) k
 square x s a k K v h = subst (λ (t : Bool). Close (mul binary32 x x) t one (a * a) k) (alike s) (product x x s s a a k K v v h)
-  where
-    alike : (s : Bool) → unlike s s ≡ false
-    alike true = refl
-    alike false = refl
 
 -- over one that is not negative
 pub over : (x y : Float) (s : Bool) (a b k : ℕ) → Limit k → HasValue x s a one → HasValue y false b one → 0 < b → a ≤ k * b → Close (div binary32 x y) s b (a * one) k
-over x y s a b k K v w B h = subst (λ (t : Bool). Close (div binary32 x y) t b (a * one) k) (same s) (quotient x y s false a b k K v w B h)
-  where
-    same : (s : Bool) → unlike s false ≡ s
-    same true = refl
-    same false = refl
+over x y s a b k K v w B h = subst (λ (t : Bool). Close (div binary32 x y) t b (a * one) k) (same-sign s) (quotient x y s false a b k K v w B h)
 
 -- ---- sums: z is ±w units rounded
 close-units : (z : Float) (r : Bool) (w k : ℕ) → Limit k → z ≡ round binary32 r w one → w ≤ k * one → Close z r 1 w k

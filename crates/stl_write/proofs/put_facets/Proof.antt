@@ -7,7 +7,7 @@ use Rattle.stl.specs.File.{facetBytes}
 use Rattle.stl.specs.Write.{facetOf}
 use Rattle.stl.proofs.Each.{Row, row-none, row-room, row-turn, row-done}
 use Rattle.stl_write.proofs.Fine.{facet-finite}
-use Rattle.stl_write.proofs.Parts.{length-facet}
+use Rattle.stl.proofs.Back.{length-facet}
 use Rattle.stl_write.proofs.put_facets.Statement.{statement}
 use Rattle.stl_write.proofs.put_facets.Tie as tie
 

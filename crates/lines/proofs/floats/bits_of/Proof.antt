@@ -1,11 +1,11 @@
 -- `lines::floats::bits_of` meets its contract: only a NaN differs from itself. Assumes nothing.
 use borrow.Author.Needs.{needs}
-use Rattle.lines.proofs.Patterns.{nan-bits, no-nan}
+use Rattle.root.proofs.Bits.{nan-word, no-nan}
 use Rattle.lines.proofs.floats.bits_of.Statement.{statement}
 use Rattle.lines.proofs.floats.bits_of.Tie as tie
 
 returns : tie.Need-returns
-returns c = nan-bits (c .before .args .x) (c .if1 .taken)
+returns c = nan-word (c .before .args .x) (c .if1 .taken)
 
 float-to-bits-result : tie.Need-float-to-bits-result
 float-to-bits-result c = rw (no-nan (c .before .args .x) (c .if1 .left)) tt

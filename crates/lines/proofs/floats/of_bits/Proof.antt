@@ -1,5 +1,6 @@
 -- `lines::floats::of_bits` meets its contract: the two tests tell the one NaN, any other, and the numbers. Assumes nothing.
-use Rattle.lines.proofs.Patterns.{by-nan, by-other-nan, no-nan-bits, by-number}
+use Rattle.root.proofs.Bits.{no-nan-bits}
+use Rattle.lines.proofs.Patterns.{by-nan, by-other-nan, by-number}
 use Rattle.lines.proofs.floats.of_bits.Statement.{statement}
 use Rattle.lines.proofs.floats.of_bits.Tie as tie
 

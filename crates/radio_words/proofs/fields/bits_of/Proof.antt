@@ -1,6 +1,6 @@
 -- `radio_words::fields::bits_of` meets its contract. Assumes nothing.
-use Rattle.radio_words.proofs.Patterns.{nan-word, no-nan}
 use borrow.Author.Needs.{needs}
+use Rattle.root.proofs.Bits.{nan-word, no-nan}
 use Rattle.radio_words.proofs.fields.bits_of.Statement.{statement}
 use Rattle.radio_words.proofs.fields.bits_of.Tie as tie
 

@@ -1,6 +1,7 @@
 -- `radio_words::fields::of_bits` meets its contract. Assumes nothing.
-use Rattle.radio_words.proofs.Patterns.{nan-bits, no-nan-bits}
 use borrow.Author.Needs.{needs}
+use Rattle.root.proofs.Bits.{no-nan-bits}
+use Rattle.radio_words.proofs.Patterns.{nan-bits}
 use Rattle.radio_words.proofs.fields.of_bits.Statement.{statement}
 use Rattle.radio_words.proofs.fields.of_bits.Tie as tie
 

@@ -1,7 +1,6 @@
 -- `reader::answer::judged` meets its contract. Assumes nothing.
 use borrow.Author.Needs.{needs}
-use mathlib.Core.Path.{sym, ap, _∙_}
-use mathlib.Core.Bool.{cond}
+use mathlib.Core.Path.{sym, _∙_}
 use Rattle.reader.proofs.answer.judged.Statement.{statement}
 use Rattle.reader.proofs.answer.judged.Tie as tie
 

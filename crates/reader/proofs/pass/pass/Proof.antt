@@ -4,7 +4,6 @@ use Prim.Native.Nat.{_-_}
 use native.Mathlib.Omega.{arith}
 use lib.ListN.{length}
 use Rattle.reader.proofs.Passing.{Passes, passes-none, passes-turn, passes-over, passes-all, still-on, now-over}
-use mathlib.Core.Path.{sym, _∙_}
 use Rattle.reader.proofs.pass.pass.Statement.{statement}
 use Rattle.reader.proofs.pass.pass.Tie as tie
 

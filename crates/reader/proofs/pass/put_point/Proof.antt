@@ -1,7 +1,7 @@
 -- `reader::pass::put_point` meets its contract. Assumes nothing.
 use borrow.Author.Needs.{needs}
 use Rattle.lists.proofs.Laws.{over-two}
-use Rattle.reader.proofs.Putting.{put-none, put-first}
+use Rattle.lists.proofs.Short.{put-none, put-first}
 use Rattle.reader.proofs.pass.put_point.Statement.{statement}
 use Rattle.reader.proofs.pass.put_point.Tie as tie
 

@@ -1,7 +1,7 @@
 -- `reader::pass::put_verb` meets its contract. Assumes nothing.
 use borrow.Author.Needs.{needs}
 use Rattle.lists.proofs.Laws.{over-one}
-use Rattle.reader.proofs.Putting.{put-none}
+use Rattle.lists.proofs.Short.{put-none}
 use Rattle.reader.proofs.pass.put_verb.Statement.{statement}
 use Rattle.reader.proofs.pass.put_verb.Tie as tie
 

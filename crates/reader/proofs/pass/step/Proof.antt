@@ -2,9 +2,6 @@
 use borrow.Author.Needs.{needs}
 use native.Mathlib.Omega.{arith}
 use Rattle.reader.proofs.Passing.{stepped-by}
-use mathlib.Core.Path.{sym, ap, _∙_}
-use Rattle.values.specs.declared.state.Took.{Took}
-use Rattle.reader.specs.Pass.{Sheet, sheetOf, stepped, calledPut}
 use Rattle.reader.proofs.pass.step.Statement.{statement}
 use Rattle.reader.proofs.pass.step.Tie as tie
 

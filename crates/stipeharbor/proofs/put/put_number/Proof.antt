@@ -1,6 +1,6 @@
 -- `stipeharbor::put::put_number` meets its contract. Assumes nothing.
 use Rattle.lists.proofs.Laws.{over-one}
-use Rattle.stipeharbor.proofs.Putting.{put-none}
+use Rattle.lists.proofs.Short.{put-none}
 use borrow.Author.Needs.{needs}
 use Rattle.stipeharbor.proofs.put.put_number.Statement.{statement}
 use Rattle.stipeharbor.proofs.put.put_number.Tie as tie

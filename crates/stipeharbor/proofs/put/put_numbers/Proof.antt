@@ -1,6 +1,6 @@
 -- `stipeharbor::put::put_numbers` meets its contract. Assumes nothing.
 use Rattle.lists.proofs.Laws.{over-three}
-use Rattle.stipeharbor.proofs.Putting.{put-none, put-first, put-second}
+use Rattle.lists.proofs.Short.{put-none, put-first, put-second}
 use borrow.Author.Needs.{needs}
 use Rattle.stipeharbor.proofs.put.put_numbers.Statement.{statement}
 use Rattle.stipeharbor.proofs.put.put_numbers.Tie as tie

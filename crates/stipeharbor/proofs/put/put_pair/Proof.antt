@@ -1,7 +1,7 @@
 -- `stipeharbor::put::put_pair` meets its contract. Assumes nothing.
 use borrow.Author.Needs.{needs}
 use Rattle.lists.proofs.Laws.{over-two}
-use Rattle.stipeharbor.proofs.Putting.{put-none, put-first}
+use Rattle.lists.proofs.Short.{put-none, put-first}
 use Rattle.stipeharbor.proofs.put.put_pair.Statement.{statement}
 use Rattle.stipeharbor.proofs.put.put_pair.Tie as tie
 

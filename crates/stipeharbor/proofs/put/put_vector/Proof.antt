@@ -1,6 +1,6 @@
 -- `stipeharbor::put::put_vector` meets its contract. Assumes nothing.
 use Rattle.lists.proofs.Laws.{over-two}
-use Rattle.stipeharbor.proofs.Putting.{put-none, put-first}
+use Rattle.lists.proofs.Short.{put-none, put-first}
 use borrow.Author.Needs.{needs}
 use Rattle.stipeharbor.proofs.put.put_vector.Statement.{statement}
 use Rattle.stipeharbor.proofs.put.put_vector.Tie as tie
