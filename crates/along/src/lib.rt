@@ -80,7 +80,7 @@ fn pass_joint(
 }
 
 // The next point, which is kept.
-pub fn pass_kept(
+fn pass_kept(
     v: &mut [f32],
     src: &mut [u32],
     t: &mut [Index],

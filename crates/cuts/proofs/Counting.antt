@@ -17,11 +17,9 @@ use Rattle.kept.proofs.Further.{keep-near, keep-far}
 use Rattle.kept.proofs.Looks.{kept-far, kept-alone, kept-ended}
 use Rattle.dashes.specs.Counts.{EdgeCounted}
 use Rattle.dashes.specs.Pattern.{wearLimit}
-use Rattle.dashes.specs.Marks.{fallsOn, passedOf, spotOf, turnedOf, cutsOn, behind, cutLimit, cutsEnough, cutMarks, marksFrom, marksOf}
+use Rattle.dashes.specs.Marks.{Mark, Corner, fallsOn, passedOf, spotOf, turnedOf, cutsOn, behind, cutLimit, cutsEnough, cutMarks, marksFrom, marksOf}
 use Rattle.dashes.specs.declared.pattern.Beat.{Beat}
 use Rattle.dashes.specs.declared.spot.Spot.{Spot}
-use Rattle.dashes.specs.declared.spot.Mark.{Mark}
-use Rattle.dashes.specs.declared.spot.Mark.the-variants.{Corner}
 use Rattle.dashes.specs.declared.count.Passed.{Passed}
 use Rattle.cuts.specs.Cuts.{cutCount, keptCuts, cappedOf}
 use Rattle.cuts.specs.Counts.{Ready, Bounded, turnedAt, toCome, goesOn, OnEdge, Visited, PointsCounted}

@@ -9,10 +9,8 @@ use native.Mathlib.Omega.{arith}
 use lib.Ieee.{Float}
 use lib.ListN.{length}
 use Rattle.endpoint.specs.declared.Endpoint.{Endpoint}
-use Rattle.dashes.specs.Marks.{fallsOn, cutOf, passedOf, turnedOf, cutsOn, behind, cutLimit, cutsEnough, cutMarks, marksFrom}
+use Rattle.dashes.specs.Marks.{Mark, Cut, Corner, fallsOn, cutOf, passedOf, turnedOf, cutsOn, behind, cutLimit, cutsEnough, cutMarks, marksFrom}
 use Rattle.dashes.specs.declared.spot.Spot.{Spot}
-use Rattle.dashes.specs.declared.spot.Mark.{Mark}
-use Rattle.dashes.specs.declared.spot.Mark.the-variants.{Cut, Corner}
 use Rattle.cuts.specs.Cuts.{cutCount}
 use Rattle.cuts.proofs.Counting.{count-append}
 

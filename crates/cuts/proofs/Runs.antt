@@ -1,26 +1,24 @@
 -- The cut runs of a path: of runs one behind the other they stand one behind the other; without dashes they are the runs themselves; and they have no more points than the runs, a point more to each run
 -- (p0 of a closed one comes twice) and the cuts. Assumes nothing.
-use Prim.Native.Nat.{ℕ, zero, suc, _+_, _≤_, _<_}
-use mathlib.Core.Path.{_≡_, refl, ap, _∙_}
+use Prim.Native.Nat.{ℕ, suc, _+_, _≤_}
+use mathlib.Core.Path.{_≡_, refl, ap}
 use mathlib.Core.Bool.{Bool, true, false, _&&_, cond}
 use mathlib.Core.List.{List, [], _∷_, _++_, append-assoc}
 use native.Mathlib.Omega.{arith}
-use borrow.Author.Tests.{ltb-true}
 use lib.Dec.{ltb}
 use lib.Ieee.{Float}
 use lib.ListN.{length, length-append}
 use Rattle.endpoint.specs.declared.Endpoint.{Endpoint}
 use Rattle.plane.specs.F32.{f32}
 use Rattle.path.specs.Runs.{Run, pointsOf}
+use Rattle.path.proofs.Runs.{points-append}
 use Rattle.kept.specs.Kept.{keptPoints}
 use Rattle.kept.proofs.Lengths.{kept-few}
 use Rattle.dashes.specs.Pattern.{isDash, wornOf, firstCut}
-use Rattle.dashes.specs.Marks.{marksOf, marksFrom, cutMarks, cutsOn, behind, turnedOf, spotOf, cutsEnough, cutLimit}
+use Rattle.dashes.specs.Marks.{Mark, Cut, Corner, marksOf, marksFrom, cutMarks, cutsOn, behind, turnedOf, spotOf, cutsEnough}
 use Rattle.dashes.specs.Dashes.{dashesFrom, dashesOf}
 use Rattle.dashes.specs.declared.pattern.Beat.{Beat}
 use Rattle.dashes.specs.declared.spot.Spot.{Spot}
-use Rattle.dashes.specs.declared.spot.Mark.{Mark}
-use Rattle.dashes.specs.declared.spot.Mark.the-variants.{Cut, Corner}
 use Rattle.cuts.specs.Cuts.{cutCount, keptCuts, runsCuts}
 use Rattle.cuts.specs.Runs.{isCut, linesOf, cutRun, cutRuns, FewCuts}
 use Rattle.cuts.proofs.Counting.{count-append}
@@ -108,11 +106,6 @@ lines-few limit (ps ∷ rest) = go (ltb 1 (length (keptPoints limit false ps))) 
     go : (t : Bool) → length (pointsOf (linesOf limit rest)) ≤ total rest → length (pointsOf (cond t (record { closed = false; points = ps } ∷ linesOf limit rest) (linesOf limit rest))) ≤ length ps + total rest
     go true h = simp length-append (omega arith)
     go false h = omega arith
-
-points-append : (xs ys : List (Run Endpoint)) → length (pointsOf (xs ++ ys)) ≡ length (pointsOf xs) + length (pointsOf ys)
-unfolding pointsOf
-points-append [] ys = omega arith
-points-append (x ∷ xs) ys = simp length-append (omega (arith, points-append xs ys))
 
 module _ (limit : Float) (ds : List Float) (offset : Float) where
   abbrev b : Beat

@@ -10,10 +10,8 @@ use Rattle.path.specs.Runs.{Run, runsFrom}
 use Rattle.kept.specs.Kept.{keptPoints}
 use Rattle.kept.specs.Points.{endpointsOf}
 use Rattle.dashes.specs.Pattern.{wornOf, firstCut}
-use Rattle.dashes.specs.Marks.{marksOf, cutLimit, cutsEnough}
+use Rattle.dashes.specs.Marks.{Mark, Cut, Corner, marksOf, cutLimit, cutsEnough}
 use Rattle.dashes.specs.declared.pattern.Beat.{Beat}
-use Rattle.dashes.specs.declared.spot.Mark.{Mark}
-use Rattle.dashes.specs.declared.spot.Mark.the-variants.{Cut, Corner}
 
 -- how many of a run's marks are cuts
 unfoldable pub cutCount : List Mark → ℕ

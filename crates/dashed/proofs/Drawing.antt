@@ -1,8 +1,8 @@
 -- Drawing a dash. The plan: a dash of two kept points or more by woven's laws of a run, with arcs or without; a dash from its first point; in the parts of the lists
 -- that it is lent; then the dashes one behind the other (`Drawing`). Assumes nothing.
 use Prim.Native.Nat.{ℕ, _+_, _-_, _*_, _<_}
-use mathlib.Core.Path.{_≡_, refl, sym, ap, _∙_, subst}
-use mathlib.Core.Bool.{Bool, true, false, _||_, cond, true≢false}
+use mathlib.Core.Path.{_≡_, sym, ap, _∙_, subst}
+use mathlib.Core.Bool.{true, false, _||_, cond}
 use mathlib.Core.List.{List, [], _∷_, append-nil, append-assoc}
 use native.Mathlib.Omega.{arith}
 use borrow.Rule.Slice.PartMut.{midOf, putMid}
@@ -28,7 +28,7 @@ use Rattle.woven.specs.Woven.{wovenOf, roundPiece, overStrip}
 use Rattle.woven.proofs.Runs.{drawn}
 use Rattle.plait.proofs.Rounds.{round-none}
 use Rattle.dashes.specs.Dashes.{dashesFrom}
-use Rattle.feed.specs.Feed.{Counted, comes}
+use Rattle.feed.specs.Feed.{WellNumbered, comes}
 use Rattle.feed.specs.Trail.{dashPoints, trailPoints, trailBehind, trailDashes, Follows, TrailFits, Begins}
 use Rattle.feed.specs.declared.trail.Next.{Next}
 use Rattle.feed.specs.declared.trail.Trail.{Trail}
@@ -40,15 +40,7 @@ use Rattle.dashed.specs.declared.Dash.{Dash}
 use Rattle.dashed.specs.declared.Drawn.{Drawn}
 use Rattle.dashed.specs.declared.strips.Stripped.{Stripped}
 
--- ---- tests and pieces
-or-left : (a b : Bool) → (a || b) ≡ false → a ≡ false
-or-left true b h = h
-or-left false b h = refl
-
-or-right : (a b : Bool) → (a || b) ≡ false → b ≡ false
-or-right true b h = absurd (true≢false h)
-or-right false b h = h
-
+-- ---- pieces
 joined-assoc : (x y z : Piece) → joined (joined x y) z ≡ joined x (joined y z)
 joined-assoc x y z = rw (append-assoc (x .vertices) (y .vertices) (z .vertices), append-assoc (x .triangles) (y .triangles) (z .triangles))
 
@@ -56,7 +48,7 @@ joined-assoc x y z = rw (append-assoc (x .vertices) (y .vertices) (z .vertices),
 plain : (o : Stroke) (r : Round) (base : VertexId) (a b : Endpoint) (qs : List Endpoint) → (r .joins || r .caps) ≡ false → roundPiece false o r base (a ∷ b ∷ qs) ≡ pieceOf (startOf base) (jointsOf false o (a ∷ b ∷ qs))
 plain o r base a b qs h =
     let js = jointsOf false o (a ∷ b ∷ qs) in
-    round-none false o r base a b qs (or-left (r .joins) (r .caps) h) (or-right (r .joins) (r .caps) h) ∙ rw (triangles-are false base js, append-nil (pieceOf (startOf base) js .triangles))
+    round-none false o r base a b qs h ∙ rw (triangles-are false base js, append-nil (pieceOf (startOf base) js .triangles))
 
 module _ (pass : Pass) (r : Round) (p : List Float) (first : ℕ) (ds : List Float) where
   abbrev o : Stroke
@@ -82,7 +74,7 @@ module _ (pass : Pass) (r : Round) (p : List Float) (first : ℕ) (ds : List Flo
       kept-is = ap (λ (qs : List Endpoint). t .last ∷ qs) (e .points) ∙ rw found
 
       pub dash-fits : DashFits (o .near) p first ds (record { from = t .last; trail = n .trail })
-      dash-fits = record { feed = e .fits; numbered = subst (All Counted) kept-is (trail-counted (o .near) p first ds t w) }
+      dash-fits = record { feed = e .fits; numbered = subst (All WellNumbered) kept-is (trail-counted (o .near) p first ds t w) }
 
       pub piece-is : (base : VertexId) → dashPiece o r base (trailKept (o .near) p first ds t) ≡ roundPiece false o r base (dashKept (o .near) p first ds (record { from = t .last; trail = n .trail }))
       unfolding dashPiece

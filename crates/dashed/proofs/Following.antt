@@ -9,13 +9,13 @@ use lib.ListN.{length}
 use Rattle.endpoint.specs.declared.Endpoint.{Endpoint}
 use Rattle.lists.specs.All.{All}
 use Rattle.kept.proofs.Numbered.{Numbered}
-use Rattle.feed.specs.Feed.{Counted, comes}
+use Rattle.feed.specs.Feed.{WellNumbered, comes}
 use Rattle.feed.specs.Trail.{nextPoints, nextBehind, Follows}
 use Rattle.feed.specs.declared.trail.Next.{Next}
 use Rattle.dashed.specs.Passes.{dashKept, DashFits}
 use Rattle.dashed.specs.declared.Dash.{Dash}
 
-counted-numbered : (qs : List Endpoint) → All Counted qs → All Numbered qs
+counted-numbered : (qs : List Endpoint) → All WellNumbered qs → All Numbered qs
 counted-numbered [] g = tt
 counted-numbered (q ∷ qs) g = (omega (arith, g .0), counted-numbered qs (g .1))
 
@@ -30,13 +30,13 @@ module _ (limit : Float) (p : List Float) (first : ℕ) (ds : List Float) (n : N
     pub behind-on : nextBehind limit p first ds n ≡ nextBehind limit p first ds m
     behind-on = rw found (e .behind)
 
-    pub counted-on : All Counted (nextPoints limit p first ds n) → All Counted (nextPoints limit p first ds m)
+    pub counted-on : All WellNumbered (nextPoints limit p first ds n) → All WellNumbered (nextPoints limit p first ds m)
     counted-on g = (rw points-on at g) .1
 
     pub fewer-on : length (nextPoints limit p first ds m) < length (nextPoints limit p first ds n)
     fewer-on = rw points-on (omega arith)
 
-  pub counted-here : n .found ≡ true → All Counted (nextPoints limit p first ds n) → Counted (n .trail .last)
+  pub counted-here : n .found ≡ true → All WellNumbered (nextPoints limit p first ds n) → WellNumbered (n .trail .last)
   counted-here found g = (rw found at g) .0
 
   module _ (found : n .found ≡ false) where

@@ -22,7 +22,7 @@ use Rattle.along.specs.Points.{advanced, visitOf, walked, passed}
 use Rattle.along.specs.Walk.{Walks}
 use Rattle.along.specs.declared.Pass.{Pass}
 use Rattle.along.specs.declared.Walk.{Walk}
-use Rattle.feed.specs.Feed.{Counted, FeedFits}
+use Rattle.feed.specs.Feed.{WellNumbered, FeedFits}
 use Rattle.feed.specs.Trail.{trailPoints, nextPoints, nextBehind, Follows}
 use Rattle.feed.specs.declared.trail.Next.{Next}
 use Rattle.feed.specs.declared.trail.Trail.{Trail}
@@ -59,10 +59,10 @@ module _ (pass : Pass) (p : List Float) (first : ℕ) (ds : List Float) where
     pub midway : Midway (pass .write) (w0 .strip) (rest w0 n0) l0 (rest w n) (w .strip) l
     pub behind : nextBehind (o .near) p first ds n0 ≡ nextBehind (o .near) p first ds n
     pub fits : FeedFits (o .near) p first ds (n .trail .feed)
-    pub counted : All Counted (nextPoints (o .near) p first ds n)
+    pub counted : All WellNumbered (nextPoints (o .near) p first ds n)
 
   -- the first look is from the trail t
-  pub stripping-none : (w : Walk) (t : Trail) (n : Next) (l : Lists) → Follows (o .near) p first ds t n → All Counted (trailPoints (o .near) p first ds t) → Stripping w n l w n l
+  pub stripping-none : (w : Walk) (t : Trail) (n : Next) (l : Lists) → Follows (o .near) p first ds t n → All WellNumbered (trailPoints (o .near) p first ds t) → Stripping w n l w n l
   stripping-none w t n l e g = record { midway = midway-start; behind = refl; fits = e .fits; counted = rw (e .points) at g }
 
   module _ {w0 : Walk} {n0 : Next} {l0 : Lists} {w : Walk} {n : Next} {l : Lists} (s : Stripping w0 n0 l0 w n l) where
@@ -70,7 +70,7 @@ module _ (pass : Pass) (p : List Float) (first : ℕ) (ds : List Float) where
       next : rest w n ≡ advanced o (w .leg) (n .trail .last) ++ jointsFrom false o (nextLegOf (o .«half_width») (w .leg) (n .trail .last)) (trailPoints (o .near) p first ds (n .trail))
       next = rw found (joints-on o (w .leg) (n .trail .last) (trailPoints (o .near) p first ds (n .trail)))
 
-      pub turn-counted : Counted (n .trail .last)
+      pub turn-counted : WellNumbered (n .trail .last)
       turn-counted = counted-here (o .near) p first ds n found (s .counted)
 
       pub turn-has : StripFits (pass .write) (w0 .strip) (rest w0 n0) l0 → StripFits (pass .write) (w .strip) (advanced o (w .leg) (n .trail .last)) l

@@ -28,7 +28,7 @@ use Rattle.weave.specs.Walk.{Walks, openedOf}
 use Rattle.weave.specs.declared.Walk.{Walk}
 use Rattle.woven.specs.Woven.{wovenOf, WovenFits}
 use Rattle.woven.proofs.Runs.{cap-fits, open-fits, open-passes}
-use Rattle.feed.specs.Feed.{Counted, FeedFits}
+use Rattle.feed.specs.Feed.{WellNumbered, FeedFits}
 use Rattle.feed.specs.Trail.{trailPoints, nextPoints, Follows}
 use Rattle.feed.specs.declared.trail.Next.{Next}
 use Rattle.feed.specs.declared.trail.Trail.{Trail}
@@ -58,10 +58,10 @@ module _ (pass : Pass) (r : Round) (p : List Float) (first : ℕ) (ds : List Flo
   pub record Weaving (w0 : Walk) (n0 : Next) (l0 : Lists) (w : Walk) (n : Next) (l : Lists) : Type 0 where
     pub midway : Midway (pass .write) o r (w0 .weave) (rest w0 n0) l0 (rest w n) (w .weave) l
     pub fits : FeedFits (o .near) p first ds (n .trail .feed)
-    pub counted : All Counted (nextPoints (o .near) p first ds n)
+    pub counted : All WellNumbered (nextPoints (o .near) p first ds n)
 
   -- the first look is from the trail t
-  pub weaving-none : (w : Walk) (t : Trail) (n : Next) (l : Lists) → Follows (o .near) p first ds t n → All Counted (trailPoints (o .near) p first ds t) → Weaving w n l w n l
+  pub weaving-none : (w : Walk) (t : Trail) (n : Next) (l : Lists) → Follows (o .near) p first ds t n → All WellNumbered (trailPoints (o .near) p first ds t) → Weaving w n l w n l
   weaving-none w t n l e g = record { midway = midway-start; fits = e .fits; counted = rw (e .points) at g }
 
   module _ {w0 : Walk} {n0 : Next} {l0 : Lists} {w : Walk} {n : Next} {l : Lists} (s : Weaving w0 n0 l0 w n l) where
@@ -69,7 +69,7 @@ module _ (pass : Pass) (r : Round) (p : List Float) (first : ℕ) (ds : List Flo
       next : rest w n ≡ advanced o (w .leg) (n .trail .last) ++ bendsFrom false o (nextLegOf (o .«half_width») (w .leg) (n .trail .last)) (trailPoints (o .near) p first ds (n .trail))
       next = rw found (bends-on o (w .leg) (n .trail .last) (trailPoints (o .near) p first ds (n .trail)))
 
-      pub turn-counted : Counted (n .trail .last)
+      pub turn-counted : WellNumbered (n .trail .last)
       turn-counted = counted-here (o .near) p first ds n found (s .counted)
 
       pub turn-has : WeaveFits (pass .write) o r (w0 .weave) (rest w0 n0) l0 → WeaveFits (pass .write) o r (w .weave) (advanced o (w .leg) (n .trail .last)) l

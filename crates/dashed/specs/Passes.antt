@@ -15,7 +15,7 @@ use Rattle.strip.specs.declared.Strip.{Strip}
 use Rattle.along.specs.declared.Pass.{Pass}
 use Rattle.fans.specs.declared.Round.{Round}
 use Rattle.dashes.specs.Dashes.{dashesOf}
-use Rattle.feed.specs.Feed.{Counted, comes, FeedFits}
+use Rattle.feed.specs.Feed.{WellNumbered, comes, FeedFits}
 use Rattle.feed.specs.Trail.{trailPoints, trailBehind, trailDashes, TrailFits}
 use Rattle.feed.specs.declared.Feed.{Feed}
 use Rattle.feed.specs.declared.trail.Trail.{Trail}
@@ -36,7 +36,7 @@ module _ (limit : Float) (p : List Float) (first : ℕ) where
 
     pub record DashFits (d : Dash) : Type 0 where
       pub feed : FeedFits limit p first ds (d .trail .feed)
-      pub numbered : All Counted (dashKept d)
+      pub numbered : All WellNumbered (dashKept d)
 
     -- a feed behind the dash
     pub record Leaves (t : Trail) (f : Feed) : Type 0 where

@@ -28,7 +28,7 @@ ghost use Rattle.lists.specs.All.{All};
 ghost use Rattle.weave.specs.Points.{bendsFrom, advanced};
 ghost use Rattle.weave.specs.Walk.{Walks};
 ghost use Rattle.woven.specs.Woven.{wovenOf, overStrip, WovenFits};
-ghost use Rattle.feed.specs.Feed.{Counted, FeedFits};
+ghost use Rattle.feed.specs.Feed.{WellNumbered, FeedFits};
 ghost use Rattle.feed.specs.Trail.{trailPoints};
 ghost use Rattle.dashed.specs.Passes.{dashKept, DashFits};
 
@@ -42,7 +42,7 @@ fn weave_one(
     w: Walk,
     q: Endpoint,
 ) -> Walk
-    requires { ⌜ Counted q ⌝ }
+    requires { ⌜ WellNumbered q ⌝ }
     requires { ⌜ WeaveFits (pass .write) (pass .stroke) r (w .weave) (advanced (pass .stroke) (w .leg) q) (lent (now v) (now src) (now t)) ⌝ }
     ensures { λ k. ⌜ Walks pass r (advanced (pass .stroke) (w .leg) q) (nextLegOf (pass .stroke .«half_width») (w .leg) q) w (lent (now (v .entry)) (now (src .entry)) (now (t .entry))) (lent (now (v .exit)) (now (src .exit)) (now (t .exit))) k ⌝ }
 {
@@ -70,7 +70,7 @@ fn weave_on(
     ds: &[f32],
     trail: Trail,
 ) -> Weave
-    requires { ⌜ FeedFits (pass .stroke .near) (now p) (first .0) (now ds) (trail .feed) × All Counted (trailPoints (pass .stroke .near) (now p) (first .0) (now ds) trail) ⌝ }
+    requires { ⌜ FeedFits (pass .stroke .near) (now p) (first .0) (now ds) (trail .feed) × All WellNumbered (trailPoints (pass .stroke .near) (now p) (first .0) (now ds) trail) ⌝ }
     requires { ⌜ WeaveFits (pass .write) (pass .stroke) r (w .weave) (bendsFrom false (pass .stroke) (w .leg) (trailPoints (pass .stroke .near) (now p) (first .0) (now ds) trail)) (lent (now v) (now src) (now t)) ⌝ }
     ensures { λ q. ⌜ WeavePasses (pass .write) (pass .stroke) r (bendsFrom false (pass .stroke) (w .leg) (trailPoints (pass .stroke .near) (now (p .entry)) (first .0) (now (ds .entry)) trail)) (w .weave) (lent (now (v .entry)) (now (src .entry)) (now (t .entry))) (lent (now (v .exit)) (now (src .exit)) (now (t .exit))) q ⌝ }
 {

@@ -23,7 +23,7 @@ ghost use Rattle.along.specs.Points.{advanced};
 ghost use Rattle.along.specs.Walk.{Walks};
 ghost use Rattle.pieces.specs.Piece.{lent};
 ghost use Rattle.strip.specs.Strip.{StripFits, startOf};
-ghost use Rattle.feed.specs.Feed.{Counted, FeedFits};
+ghost use Rattle.feed.specs.Feed.{WellNumbered, FeedFits};
 ghost use Rattle.feed.specs.Trail.{trailPoints};
 ghost use Rattle.dashed.specs.Passes.{dashKept, DashFits, Strips};
 
@@ -43,7 +43,7 @@ fn strip_one(
     w: Walk,
     q: Endpoint,
 ) -> Walk
-    requires { ⌜ Counted q ⌝ }
+    requires { ⌜ WellNumbered q ⌝ }
     requires { ⌜ StripFits (pass .write) (w .strip) (advanced (pass .stroke) (w .leg) q) (lent (now v) (now src) (now t)) ⌝ }
     ensures { λ r. ⌜ Walks (pass .write) (advanced (pass .stroke) (w .leg) q) (nextLegOf (pass .stroke .«half_width») (w .leg) q) w (lent (now (v .entry)) (now (src .entry)) (now (t .entry))) (lent (now (v .exit)) (now (src .exit)) (now (t .exit))) r ⌝ }
 {
@@ -70,7 +70,7 @@ fn strip_on(
     ds: &[f32],
     trail: Trail,
 ) -> Stripped
-    requires { ⌜ FeedFits (pass .stroke .near) (now p) (first .0) (now ds) (trail .feed) × All Counted (trailPoints (pass .stroke .near) (now p) (first .0) (now ds) trail) ⌝ }
+    requires { ⌜ FeedFits (pass .stroke .near) (now p) (first .0) (now ds) (trail .feed) × All WellNumbered (trailPoints (pass .stroke .near) (now p) (first .0) (now ds) trail) ⌝ }
     requires { ⌜ StripFits (pass .write) (w .strip) (jointsFrom false (pass .stroke) (w .leg) (trailPoints (pass .stroke .near) (now p) (first .0) (now ds) trail)) (lent (now v) (now src) (now t)) ⌝ }
     ensures { λ r. ⌜ Strips pass (now (p .entry)) (first .0) (now (ds .entry)) trail (jointsFrom false (pass .stroke) (w .leg) (trailPoints (pass .stroke .near) (now (p .entry)) (first .0) (now (ds .entry)) trail)) (w .strip) (lent (now (v .entry)) (now (src .entry)) (now (t .entry))) (lent (now (v .exit)) (now (src .exit)) (now (t .exit))) r ⌝ }
 {

@@ -4,9 +4,7 @@ use mathlib.Core.List.{List, [], _∷_, _++_}
 use lib.Ieee.{Float}
 use Rattle.endpoint.specs.declared.Endpoint.{Endpoint}
 use Rattle.dashes.specs.Pattern.{isDash, wornOf, firstCut}
-use Rattle.dashes.specs.Marks.{marksOf}
-use Rattle.dashes.specs.declared.spot.Mark.{Mark}
-use Rattle.dashes.specs.declared.spot.Mark.the-variants.{Cut, Corner}
+use Rattle.dashes.specs.Marks.{Mark, Cut, Corner, marksOf}
 
 -- Inside a dash, whose points so far are ps, a corner is its next point and a cut ends it; inside a gap a cut begins the next.
 unfoldable pub dashesFrom : Bool → List Endpoint → List Mark → List (List Endpoint)

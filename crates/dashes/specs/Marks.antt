@@ -9,8 +9,11 @@ use Rattle.endpoint.specs.declared.Endpoint.{Endpoint}
 use Rattle.dashes.specs.Pattern.{nextCut}
 use Rattle.dashes.specs.declared.pattern.Beat.{Beat}
 use Rattle.dashes.specs.declared.spot.Spot.{Spot}
-use Rattle.dashes.specs.declared.spot.Mark.{Mark}
-use Rattle.dashes.specs.declared.spot.Mark.the-variants.{Cut, Corner}
+
+-- what comes next on an edge: a cut, or its end
+pub data Mark : Type 0 where
+  Cut : Endpoint → Mark
+  Corner : Endpoint → Mark
 
 -- "A cut b falls on the edge whose advancements have a0 at most b and b below a1"
 unfoldable pub fallsOn : Spot → Bool

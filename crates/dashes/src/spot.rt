@@ -21,12 +21,6 @@ pub struct Spot {
     pub beat: Beat,
 }
 
-// What comes next on an edge: a cut, or its end.
-pub enum Mark {
-    Cut(Endpoint),
-    Corner(Endpoint),
-}
-
 // Whether the cut falls on the edge: at its end it is the next edge's.
 pub fn falls(s: Spot) -> bool
     ensures { λ r. ⌜ r ≡ fallsOn s ⌝ }

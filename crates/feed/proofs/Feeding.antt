@@ -18,15 +18,13 @@ use Rattle.kept.proofs.Indexed.{points-at, points-length}
 use Rattle.kept.proofs.Further.{keep-far}
 use Rattle.kept.proofs.Keeping.{behind-all}
 use Rattle.dashes.specs.Pattern.{wearLimit, indexLimit, nextCut}
-use Rattle.dashes.specs.Marks.{fallsOn, cutOf, passedOf, spotOf, turnedOf, cutsOn, behind, cutLimit, cutsEnough, cutMarks, marksFrom, marksOf}
+use Rattle.dashes.specs.Marks.{Mark, Cut, Corner, fallsOn, cutOf, passedOf, spotOf, turnedOf, cutsOn, behind, cutLimit, cutsEnough, cutMarks, marksFrom, marksOf}
 use Rattle.dashes.specs.declared.pattern.Beat.{Beat}
 use Rattle.dashes.specs.declared.spot.Spot.{Spot}
-use Rattle.dashes.specs.declared.spot.Mark.{Mark}
-use Rattle.dashes.specs.declared.spot.Mark.the-variants.{Cut, Corner}
 use Rattle.cuts.specs.Cuts.{cutCount}
 use Rattle.cuts.proofs.Counting.{behind-to}
 use Rattle.cuts.proofs.Enough.{marks-cut}
-use Rattle.feed.specs.Feed.{Counted, markAt, MarkNumbered, onward, firstFeed, NextFar, ahead, comes, Turns, FeedFits, Feeds}
+use Rattle.feed.specs.Feed.{WellNumbered, markAt, MarkNumbered, onward, firstFeed, NextFar, ahead, comes, Turns, FeedFits, Feeds}
 use Rattle.feed.specs.declared.Feed.{Feed}
 use Rattle.feed.specs.declared.Fed.{Fed}
 
@@ -128,17 +126,17 @@ module _ (limit : Float) (p : List Float) (first : ℕ) (f : Feed) where
         zero-more n = omega arith
 
 -- ---- a run's start
-points-counted : (p : List Float) (first : ℕ) → first + length p < idLimit → All Counted (endpointsOf first p)
+points-counted : (p : List Float) (first : ℕ) → first + length p < idLimit → All WellNumbered (endpointsOf first p)
 unfolding endpointsOf
 points-counted [] first h = tt
 points-counted (x ∷ []) first h = tt
 points-counted (x ∷ y ∷ p) first h = (omega arith, points-counted p (first + 1) (omega arith))
 
-run-counted : (limit : Float) (p : List Float) (first i : ℕ) → 2 * i + 2 ≤ length p → first + length p < idLimit → All Counted (runFrom limit p first i)
+run-counted : (limit : Float) (p : List Float) (first i : ℕ) → 2 * i + 2 ≤ length p → first + length p < idLimit → All WellNumbered (runFrom limit p first i)
 run-counted limit p first i h f =
-    (omega arith, (omega arith, behind-all limit Counted (endpointAt p first i) (drop (i + 1) (endpointsOf first p)) (all-drop Counted (i + 1) (endpointsOf first p) (points-counted p first f))))
+    (omega arith, (omega arith, behind-all limit WellNumbered (endpointAt p first i) (drop (i + 1) (endpointsOf first p)) (all-drop WellNumbered (i + 1) (endpointsOf first p) (points-counted p first f))))
 
-cuts-numbered : (n : ℕ) (ds : List Float) (s : Spot) → Counted (s .from) → All MarkNumbered (cutMarks (cutsOn n ds s))
+cuts-numbered : (n : ℕ) (ds : List Float) (s : Spot) → WellNumbered (s .from) → All MarkNumbered (cutMarks (cutsOn n ds s))
 unfolding cutsOn cutMarks passedOf MarkNumbered cutOf
 cuts-numbered zero ds s h = tt
 cuts-numbered (suc n) ds s h = go (fallsOn s) (cuts-numbered n ds (passedOf ds s) h)
@@ -147,12 +145,12 @@ cuts-numbered (suc n) ds s h = go (fallsOn s) (cuts-numbered n ds (passedOf ds s
     go true g = (h, g)
     go false g = tt
 
-marks-numbered : (ds : List Float) (s : Spot) (ps : List Endpoint) → Counted (s .from) → Counted (s .to) → All Counted ps → All MarkNumbered (marksFrom ds s ps)
+marks-numbered : (ds : List Float) (s : Spot) (ps : List Endpoint) → WellNumbered (s .from) → WellNumbered (s .to) → All WellNumbered ps → All MarkNumbered (marksFrom ds s ps)
 unfolding marksFrom spotOf MarkNumbered
 marks-numbered ds s [] f t g = all-append MarkNumbered (cutMarks (cutsOn cutsEnough ds s)) (Corner (s .to) ∷ []) (cuts-numbered cutsEnough ds s f) (t, tt)
 marks-numbered ds s (p ∷ ps) f t g =
     let on : Spot = turnedOf (behind cutsEnough ds s) p in
-    let b : Counted (behind cutsEnough ds s .to) = rw (behind-to cutsEnough ds s) t in
+    let b : WellNumbered (behind cutsEnough ds s .to) = rw (behind-to cutsEnough ds s) t in
     all-append MarkNumbered (cutMarks (cutsOn cutsEnough ds s)) (Corner (s .to) ∷ marksFrom ds on ps) (cuts-numbered cutsEnough ds s f) (t, marks-numbered ds on ps b (g .0) (g .1))
 
 module _ (limit : Float) (p : List Float) (first i : ℕ) (closed : Bool) (ds : List Float) (b : Beat) where
@@ -168,9 +166,9 @@ module _ (limit : Float) (p : List Float) (first i : ℕ) (closed : Bool) (ds : 
   unfolding marksOf spotOf
   start-numbered at few =
       let g = run-counted limit p first i at few in
-      marks-numbered ds _ _ (g .0) (g .1 .0) (all-append Counted (keptBehind limit (endpointAt p first i) (drop (i + 1) (endpointsOf first p))) (cond closed (endpointAt p first 0 ∷ []) []) (g .1 .1) (home closed (g .0)))
+      marks-numbered ds _ _ (g .0) (g .1 .0) (all-append WellNumbered (keptBehind limit (endpointAt p first i) (drop (i + 1) (endpointsOf first p))) (cond closed (endpointAt p first 0 ∷ []) []) (g .1 .1) (home closed (g .0)))
     where
-      home : (c : Bool) → Counted (endpointAt p first 0) → All Counted (cond c (endpointAt p first 0 ∷ []) [])
+      home : (c : Bool) → WellNumbered (endpointAt p first 0) → All WellNumbered (cond c (endpointAt p first 0 ∷ []) [])
       home true h = (h, tt)
       home false h = tt
 

@@ -13,10 +13,9 @@ use Rattle.lists.specs.All.{All}
 use Rattle.kept.specs.Kept.{near, keptBehind}
 use Rattle.kept.proofs.Further.{keep-near, keep-far}
 use Rattle.kept.proofs.Keeping.{behind-all}
+use Rattle.dashes.specs.Marks.{Mark, Cut, Corner}
 use Rattle.dashes.specs.Dashes.{dashesFrom}
-use Rattle.dashes.specs.declared.spot.Mark.{Mark}
-use Rattle.dashes.specs.declared.spot.Mark.the-variants.{Cut, Corner}
-use Rattle.feed.specs.Feed.{Counted, markAt, MarkNumbered, comes, FeedFits, Feeds}
+use Rattle.feed.specs.Feed.{WellNumbered, markAt, MarkNumbered, comes, FeedFits, Feeds}
 use Rattle.feed.specs.Trail.{dashPoints, dashBehind, trailPoints, trailBehind, Follows, TrailFits, Begins}
 use Rattle.feed.specs.declared.Feed.{Feed}
 use Rattle.feed.specs.declared.Fed.{Fed}
@@ -44,7 +43,7 @@ dashes-inside ps (Cut q ∷ ms) = refl
 pub dashes-split : (p0 : Endpoint) (ms : List Mark) → dashesFrom true (p0 ∷ []) ms ≡ (p0 ∷ dashPoints ms) ∷ dashesFrom false [] (dashBehind ms)
 dashes-split p0 ms = dashes-inside (p0 ∷ []) ms
 
-points-counted : (ms : List Mark) → All MarkNumbered ms → All Counted (dashPoints ms)
+points-counted : (ms : List Mark) → All MarkNumbered ms → All WellNumbered (dashPoints ms)
 unfolding dashPoints MarkNumbered
 points-counted [] g = tt
 points-counted (Corner q ∷ ms) g = (g .0, points-counted ms (g .1))
@@ -74,10 +73,10 @@ module _ (limit : Float) (p : List Float) (first : ℕ) (ds : List Float) where
   pub fewer : (f : Feed) (m : Fed) → Feeds limit p first ds f m → length (marks (m .feed)) < length (marks f)
   fewer f m e = rw (e .marks) (omega arith)
 
-  pub trail-counted : (t : Trail) → TrailFits limit p first ds t → All Counted (t .last ∷ trailPoints limit p first ds t)
-  trail-counted t w = (w .last, behind-all limit Counted (t .last) (cond (t .on) (dashPoints (marks (t .feed))) []) (go (t .on)))
+  pub trail-counted : (t : Trail) → TrailFits limit p first ds t → All WellNumbered (t .last ∷ trailPoints limit p first ds t)
+  trail-counted t w = (w .last, behind-all limit WellNumbered (t .last) (cond (t .on) (dashPoints (marks (t .feed))) []) (go (t .on)))
     where
-      go : (b : Bool) → All Counted (cond b (dashPoints (marks (t .feed))) [])
+      go : (b : Bool) → All WellNumbered (cond b (dashPoints (marks (t .feed))) [])
       go true = points-counted (marks (t .feed)) (w .feed .numbered)
       go false = tt
 
@@ -146,6 +145,6 @@ module _ (limit : Float) (p : List Float) (first : ℕ) (ds : List Float) where
     unfolding dashesFrom markAt
     seek-on m e h = record { same = s .same ∙ rw (e .marks, h); fits = e .fits }
 
-    pub seek-end : (l : Endpoint) → Counted l → g .more ≡ false → Begins limit p first ds f (record { last = l; on = false; feed = g })
+    pub seek-end : (l : Endpoint) → WellNumbered l → g .more ≡ false → Begins limit p first ds f (record { last = l; on = false; feed = g })
     unfolding dashesFrom
     seek-end l n h = record { dashes = s .same ∙ rw (none g h); fits = record { last = n; feed = s .fits } }

@@ -12,11 +12,9 @@ use Rattle.lists.specs.All.{All}
 use Rattle.kept.specs.Kept.{near, keptBehind}
 use Rattle.kept.specs.Points.{endpointsOf, endpointAt}
 use Rattle.dashes.specs.Pattern.{wearLimit}
-use Rattle.dashes.specs.Marks.{spotOf, turnedOf, marksFrom, cutLimit}
+use Rattle.dashes.specs.Marks.{Mark, Cut, Corner, spotOf, turnedOf, marksFrom, cutLimit}
 use Rattle.dashes.specs.declared.pattern.Beat.{Beat}
 use Rattle.dashes.specs.declared.spot.Spot.{Spot}
-use Rattle.dashes.specs.declared.spot.Mark.{Mark}
-use Rattle.dashes.specs.declared.spot.Mark.the-variants.{Cut, Corner}
 use Rattle.cuts.specs.Cuts.{cutCount}
 use Rattle.feed.specs.declared.Feed.{Feed}
 use Rattle.feed.specs.declared.Fed.{Fed}
@@ -27,13 +25,13 @@ markAt true q = Cut q
 markAt false q = Corner q
 
 -- a u32 holds the number of an endpoint, also where the list of its two coordinates begins with it
-abbrev pub Counted : Endpoint → Type 0
-Counted q = q .id .0 + 2 < idLimit
+abbrev pub WellNumbered : Endpoint → Type 0
+WellNumbered q = q .id .0 + 2 < idLimit
 
 -- so of every mark
 unfoldable pub MarkNumbered : Mark → Type 0
-MarkNumbered (Cut q) = Counted q
-MarkNumbered (Corner q) = Counted q
+MarkNumbered (Cut q) = WellNumbered q
+MarkNumbered (Corner q) = WellNumbered q
 
 -- behind an edge's own marks: the marks of the edges through ps
 unfoldable pub onward : List Float → Spot → List Endpoint → List Mark

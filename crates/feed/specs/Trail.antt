@@ -6,10 +6,9 @@ use mathlib.Core.List.{List, [], _∷_}
 use lib.Ieee.{Float}
 use Rattle.endpoint.specs.declared.Endpoint.{Endpoint}
 use Rattle.kept.specs.Kept.{keptBehind}
+use Rattle.dashes.specs.Marks.{Mark, Cut, Corner}
 use Rattle.dashes.specs.Dashes.{dashesFrom}
-use Rattle.dashes.specs.declared.spot.Mark.{Mark}
-use Rattle.dashes.specs.declared.spot.Mark.the-variants.{Cut, Corner}
-use Rattle.feed.specs.Feed.{Counted, comes, FeedFits}
+use Rattle.feed.specs.Feed.{WellNumbered, comes, FeedFits}
 use Rattle.feed.specs.declared.Feed.{Feed}
 use Rattle.feed.specs.declared.trail.Trail.{Trail}
 use Rattle.feed.specs.declared.trail.Next.{Next}
@@ -52,7 +51,7 @@ module _ (limit : Float) (p : List Float) (first : ℕ) (ds : List Float) where
   trailDashes t = cond (t .on) (dashesFrom true (t .last ∷ []) (comes limit p first ds (t .feed))) []
 
   pub record TrailFits (t : Trail) : Type 0 where
-    pub last : Counted (t .last)
+    pub last : WellNumbered (t .last)
     pub feed : FeedFits limit p first ds (t .feed)
 
   -- from a gap to the next dash

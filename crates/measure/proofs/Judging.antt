@@ -24,7 +24,7 @@ use Rattle.pieces.specs.Piece.{behind}
 use Rattle.pieces.specs.declared.Place.{Place}
 use Rattle.runs.specs.Cursor.{undrawn}
 use Rattle.runs.specs.Part.{runAt, toldOf}
-use Rattle.runs.specs.Runs.{runsOf, cutOf, Few, meshCount, meshVertices, meshPiece}
+use Rattle.runs.specs.Runs.{runsOf, cutOf, CutsFew, meshCount, meshVertices, meshPiece}
 use Rattle.runs.proofs.Runs.{length-vertices, count-append}
 use Rattle.mesh.specs.Answer.{withPlace}
 use Rattle.mesh.specs.declared.answer.MeshAnswer.{MeshAnswer}
@@ -78,7 +78,7 @@ module _ (o : Stroke) (ds : List Float) where
         let v : 0 + length (meshVertices o (cutOf o ds rs)) ≡ count rs = omega (arith, length-vertices o (cutOf o ds rs)) in
         rw (v, n)
 
-pub told-judgeable : (o : Stroke) (ds : List Float) (k : ℕ) (verbs : List ℕ) (coords : List Float) → Sound verbs coords × Few o ds (runsOf verbs coords)
+pub told-judgeable : (o : Stroke) (ds : List Float) (k : ℕ) (verbs : List ℕ) (coords : List Float) → Sound verbs coords × CutsFew o ds (runsOf verbs coords)
     → Judgeable (toldOf o ds k (runsOf verbs coords))
 told-judgeable o ds k verbs coords s =
     let rs = runsOf verbs coords in

@@ -13,13 +13,13 @@ use path::Checked;
 use pieces::Index;
 ghost use mathlib.Core.Path.{_≡_};
 ghost use Rattle.path.specs.Path.{Sound};
-ghost use Rattle.runs.specs.Runs.{runsOf, Few, pathRuns};
+ghost use Rattle.runs.specs.Runs.{runsOf, CutsFew, pathRuns};
 ghost use Rattle.measure.specs.Answer.{measuredAnswerOf};
 ghost use Rattle.measure.specs.Measure.{countsOf, measuredOf, measureOf};
 
 // The mesh call's own count, of lists that have no places.
 fn measure_accepted(verbs: &[u8], coords: &[f32], stroke: Stroke, lengths: &[f32]) -> Measured
-    requires { ⌜ Sound (now verbs) (now coords) × Few stroke (now lengths) (runsOf (now verbs) (now coords)) ⌝ }
+    requires { ⌜ Sound (now verbs) (now coords) × CutsFew stroke (now lengths) (runsOf (now verbs) (now coords)) ⌝ }
     ensures { λ r. ⌜ measuredAnswerOf r ≡ countsOf stroke (pathRuns stroke (now (lengths .entry)) (now (verbs .entry)) (now (coords .entry))) ⌝ }
 {
     let mut v = [0.0f32; 0];

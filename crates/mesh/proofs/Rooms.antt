@@ -31,7 +31,7 @@ use Rattle.kept.proofs.Indexed.{points-length}
 use Rattle.runs.specs.Cursor.{undrawn}
 use Rattle.runs.specs.Passes.{Paired}
 use Rattle.cuts.proofs.Runs.{uncut, cut-points}
-use Rattle.runs.specs.Runs.{runsOf, Few, pathRuns, meshVertices, meshCount, meshTriangles, meshPiece}
+use Rattle.runs.specs.Runs.{runsOf, CutsFew, pathRuns, meshVertices, meshCount, meshTriangles, meshPiece}
 use Rattle.runs.proofs.Runs.{length-vertices, runs-bounded}
 use Rattle.mesh.specs.Answer.{withCounts, meshAnswerOf, isMesh, smallerOf, roomedOf, Plenty}
 use Rattle.mesh.specs.Mesh.{Outcome, refused, vertexPlaces, roomFor, acceptedOf, onceAccepted}
@@ -114,18 +114,18 @@ module _ (o : Stroke) (ds : List Float) (vs : List ℕ) (cs : List Float) (s : S
       go [] e = uncut (o .near) (o .offset) (runsOf vs cs)
       go (d ∷ ds) e = absurd (omega (arith, e))
 
-  drawn-few : Few o ds (runsOf vs cs) → length (pointsOf (pathRuns o ds vs cs)) ≤ drawnLimit
+  drawn-few : CutsFew o ds (runsOf vs cs) → length (pointsOf (pathRuns o ds vs cs)) ≤ drawnLimit
   drawn-few = go ds
     where
       own : length (pointsOf (runsOf vs cs)) ≤ verbLimit
       own = omega (arith, points-few, s .paired, s .few, count-le vs)
 
-      go : (ds : List Float) → Few o ds (runsOf vs cs) → length (pointsOf (pathRuns o ds vs cs)) ≤ drawnLimit
+      go : (ds : List Float) → CutsFew o ds (runsOf vs cs) → length (pointsOf (pathRuns o ds vs cs)) ≤ drawnLimit
       go [] f = rw (uncut (o .near) (o .offset) (runsOf vs cs)) (omega (arith, own))
       go (d ∷ ds) f = omega (arith, own, cut-points (o .near) (d ∷ ds) (o .offset) (runsOf vs cs), runs-few 0 vs (endpointsOf 0 cs), s .few, f (omega arith))
 
 -- "the counts' bounds"
-module _ (o : Stroke) (ds : List Float) (vs : List ℕ) (cs : List Float) (s : Sound vs cs) (f : Few o ds (runsOf vs cs)) where
+module _ (o : Stroke) (ds : List Float) (vs : List ℕ) (cs : List Float) (s : Sound vs cs) (f : CutsFew o ds (runsOf vs cs)) where
   abbrev rs : List (Run Endpoint)
   rs = pathRuns o ds vs cs
 
@@ -177,7 +177,7 @@ roomed-room n m nv nt e = go (ltb nv n) refl (ltb nt m) refl e
     go false p true q f = absurd (false≢true f)
     go false p false q f = (ltb-false nv n p, ltb-false nt m q)
 
-module _ (o : Stroke) (ds : List Float) (vs : List ℕ) (cs : List Float) (s : Sound vs cs) (f : Few o ds (runsOf vs cs)) (l : Lists) where
+module _ (o : Stroke) (ds : List Float) (vs : List ℕ) (cs : List Float) (s : Sound vs cs) (f : CutsFew o ds (runsOf vs cs)) (l : Lists) where
   abbrev outcome : Outcome
   outcome = acceptedOf l o (pathRuns o ds vs cs)
 

@@ -21,7 +21,7 @@ use runs::draw_runs;
 ghost use mathlib.Core.Path.{_≡_};
 ghost use Rattle.pieces.specs.Piece.{lent};
 ghost use Rattle.path.specs.Path.{Sound};
-ghost use Rattle.runs.specs.Runs.{runsOf, Few, pathRuns};
+ghost use Rattle.runs.specs.Runs.{runsOf, CutsFew, pathRuns};
 ghost use Rattle.mesh.specs.Mesh.{answered, acceptedOf, strokedOf, outcomeOf};
 ghost use Rattle.mesh.specs.Parts.{Counted};
 
@@ -35,7 +35,7 @@ pub fn count_accepted(
     sources: &mut [u32],
     triangles: &mut [Index],
 ) -> Place
-    requires { ⌜ Sound (now verbs) (now coords) × Few stroke (now lengths) (runsOf (now verbs) (now coords)) ⌝ }
+    requires { ⌜ Sound (now verbs) (now coords) × CutsFew stroke (now lengths) (runsOf (now verbs) (now coords)) ⌝ }
     ensures { λ r. ⌜ Counted stroke (pathRuns stroke (now (lengths .entry)) (now (verbs .entry)) (now (coords .entry))) (lent (now (vertices .entry)) (now (sources .entry)) (now (triangles .entry))) (lent (now (vertices .exit)) (now (sources .exit)) (now (triangles .exit))) r ⌝ }
 {
     let count = Pass {
@@ -63,7 +63,7 @@ fn mesh_accepted(
     sources: &mut [u32],
     triangles: &mut [Index],
 ) -> Meshed
-    requires { ⌜ Sound (now verbs) (now coords) × Few stroke (now lengths) (runsOf (now verbs) (now coords)) ⌝ }
+    requires { ⌜ Sound (now verbs) (now coords) × CutsFew stroke (now lengths) (runsOf (now verbs) (now coords)) ⌝ }
     ensures { λ r. ⌜ answered r (now (vertices .exit)) (now (sources .exit)) (now (triangles .exit)) ≡ acceptedOf (lent (now (vertices .entry)) (now (sources .entry)) (now (triangles .entry))) stroke (pathRuns stroke (now (lengths .entry)) (now (verbs .entry)) (now (coords .entry))) ⌝ }
 {
     let rooms = Rooms {

@@ -2,7 +2,7 @@
 -- runs alike (`Braided`); then counts, soundness, and a run without arcs. Assumes nothing.
 use Prim.Native.Nat.{ℕ, suc, _+_, _-_, _*_, _^_}
 use mathlib.Core.Path.{_≡_, refl, sym, subst, _∙_}
-use mathlib.Core.Bool.{Bool, true, false, cond}
+use mathlib.Core.Bool.{Bool, true, false, _||_, cond, true≢false}
 use mathlib.Core.List.{List, [], _∷_, _++_, append-nil}
 use native.Mathlib.Omega.{arith}
 use lib.ListN.{length, length-append}
@@ -69,9 +69,10 @@ unfolding arcSides getsArc
 sides-none [] = refl
 sides-none (j ∷ js) = omega (arith, sides-none js)
 
-adds-none : (closed joins caps : Bool) (n m : ℕ) (js : List EndpointData) → joins ≡ false → caps ≡ false → arcSides joins js * n + cond closed 0 (cond caps m 0) ≡ 0
-adds-none true joins caps n m js j c = rw (j, sides-none js) (omega arith)
-adds-none false joins caps n m js j c = rw (j, c, sides-none js) (omega arith)
+adds-none : (closed joins caps : Bool) (n m : ℕ) (js : List EndpointData) → (joins || caps) ≡ false → arcSides joins js * n + cond closed 0 (cond caps m 0) ≡ 0
+adds-none closed true caps n m js h = absurd (true≢false h)
+adds-none true false caps n m js h = rw (sides-none js) (omega arith)
+adds-none false false caps n m js h = rw (h, sides-none js) (omega arith)
 
 -- ---- items with braid's facts, that are what f writes
 pub record Braided (closed : Bool) (r : Round) (k : ℕ) (js : List EndpointData) (f : ℕ → Piece) : Type 0 where
@@ -177,9 +178,9 @@ module _ (closed : Bool) (o : Stroke) (r : Round) (base : VertexId) (p0 p1 : End
       rw (facts .spun .triangles at) (subst (λ (n : ℕ). Covers (base .0) n (woven at (facts .items))) hi (facts .sound))
 
   -- where nothing is round, its strip alone
-  pub round-none : r .joins ≡ false → r .caps ≡ false → roundPiece closed o r base kept ≡ record { vertices = verticesOf js; triangles = trianglesOf closed (base .0) js }
-  round-none j c =
-      let none : added (facts .items) ≡ 0 = facts .adds ∙ adds-none closed (r .joins) (r .caps) _ _ js j c in
+  pub round-none : (r .joins || r .caps) ≡ false → roundPiece closed o r base kept ≡ record { vertices = verticesOf js; triangles = trianglesOf closed (base .0) js }
+  round-none plain =
+      let none : added (facts .items) ≡ 0 = facts .adds ∙ adds-none closed (r .joins) (r .caps) _ _ js plain in
       let v : wovenOf closed o r base kept at .vertices ≡ [] = empty (wovenOf closed o r base kept at .vertices) (facts .spun .vertices at ∙ none) in
       let t : wovenOf closed o r base kept at .triangles ≡ trianglesOf closed (base .0) js = facts .spun .triangles at ∙ woven-none at (facts .items) none ∙ facts .strips in
       rw (v, t, append-nil (verticesOf js))

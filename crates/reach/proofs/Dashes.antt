@@ -15,12 +15,10 @@ use Rattle.kept.proofs.Lengths.{kept-few}
 use Rattle.lists.specs.All.{All}
 use Rattle.lists.proofs.All.{all-append}
 use Rattle.dashes.specs.Pattern.{isDash, wornOf, firstCut}
-use Rattle.dashes.specs.Marks.{marksOf, marksFrom, cutMarks, cutsOn, behind, turnedOf, spotOf, cutsEnough}
+use Rattle.dashes.specs.Marks.{Mark, Cut, Corner, marksOf, marksFrom, cutMarks, cutsOn, behind, turnedOf, spotOf, cutsEnough}
 use Rattle.dashes.specs.Dashes.{dashesFrom, dashesOf}
 use Rattle.dashes.specs.declared.pattern.Beat.{Beat}
 use Rattle.dashes.specs.declared.spot.Spot.{Spot}
-use Rattle.dashes.specs.declared.spot.Mark.{Mark}
-use Rattle.dashes.specs.declared.spot.Mark.the-variants.{Cut, Corner}
 use Rattle.cuts.specs.Runs.{isCut, isLine, linesOf, cutRun, cutRuns}
 use Rattle.stays.specs.Stays.{Fewer}
 use Rattle.reach.proofs.Course.{pointLimit}

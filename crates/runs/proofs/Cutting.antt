@@ -31,7 +31,7 @@ use Rattle.run.specs.Run.{roundOf, shapeVertices, shapeTriangles, shapePiece, D
 use Rattle.run.proofs.Whole.{round-shallow}
 use Rattle.runs.specs.Cut.{KeptTo, Cut, Seconds}
 use Rattle.runs.specs.declared.cut.Second.{Second}
-use Rattle.runs.specs.Runs.{cutOf, Few, drawnOf, meshVertices, meshTriangles, meshPiece}
+use Rattle.runs.specs.Runs.{cutOf, CutsFew, drawnOf, meshVertices, meshTriangles, meshPiece}
 use Rattle.runs.proofs.Lines.{two-kept, lines-piece}
 
 -- ---- the looks
@@ -102,7 +102,7 @@ module _ (o : Stroke) (ds : List Float) (r : Run Endpoint) where
         let n : base .0 + 0 ≡ base .0 = omega arith in
         rw (h, n, append-nil (shapeVertices o (drawnOf o r)), append-nil (shapeTriangles (r .closed) (base .0) (drawnOf o r)))
 
-  cut-few : 0 < length ds → Few o ds (r ∷ []) → runCuts (r .closed) ds (o .offset) kept ≤ cutLimit
+  cut-few : 0 < length ds → CutsFew o ds (r ∷ []) → runCuts (r .closed) ds (o .offset) kept ≤ cutLimit
   unfolding runsCuts
   cut-few h f = let m = f h in omega (arith, m)
 
@@ -134,7 +134,7 @@ module _ (pass : Pass) (ds : List Float) {p : List Float} {first : ℕ} {closed 
     dashes-are : (base : VertexId) → runPiece o r base closed ds (o .offset) found ≡ whole base
     dashes-are base = rw (er, ← e .here h .kept) (cut-piece o ds run base is-cut)
 
-    pub dashes-few : Few o ds (run ∷ []) → (0 < length ds) × (runCuts closed ds (o .offset) found ≤ cutLimit) × (r .detail ≤ 6)
+    pub dashes-few : CutsFew o ds (run ∷ []) → (0 < length ds) × (runCuts closed ds (o .offset) found ≤ cutLimit) × (r .detail ≤ 6)
     dashes-few f = let some = cut-some o ds run is-cut in (some, rw (e .here h .kept) at (cut-few o ds run some f), round-shallow o er)
 
     module _ {base : VertexId} {l : Lists} where

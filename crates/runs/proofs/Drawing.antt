@@ -20,7 +20,7 @@ use Rattle.path.specs.Runs.{Run, runsFrom}
 use Rattle.path.specs.Verbs.{endClosed, names}
 use Rattle.cuts.specs.Runs.{cutRuns}
 use Rattle.cuts.proofs.Runs.{cut-append, few-between}
-use Rattle.runs.specs.Runs.{cutOf, Few, meshVertices, meshTriangles, meshPiece}
+use Rattle.runs.specs.Runs.{cutOf, CutsFew, meshVertices, meshTriangles, meshPiece}
 use Rattle.runs.specs.Cursor.{undrawn, startOf, movedOf, currentOf, endedOf}
 use Rattle.runs.specs.Passes.{Paired, Inside}
 use Rattle.runs.specs.declared.cursor.Cursor.{Cursor}
@@ -93,7 +93,7 @@ module _ (o : Stroke) (ds : List Float) (g : Cursor) (verb : ℕ) (ps : List End
       part-puts = rw (one-is n, ea, eb, ec) (parts-put (g .place) run v s t write run-fits v' s' t' r (rw (ea, eb, ec) at drawn))
 
   -- no more cuts than of the verb's runs
-  pub part-cuts : {qs : List Endpoint} → names verb ≡ false → qs ≡ currentOf g verb ps .points → Few o ds (endedOf g verb ps) → Few o ds (record { closed = eqb verb endClosed; points = qs } ∷ [])
+  pub part-cuts : {qs : List Endpoint} → names verb ≡ false → qs ≡ currentOf g verb ps .points → CutsFew o ds (endedOf g verb ps) → CutsFew o ds (record { closed = eqb verb endClosed; points = qs } ∷ [])
   unfolding endedOf
   part-cuts n eq f = rw eq (rw n at f)
 
@@ -117,7 +117,7 @@ module _ {write : Bool} {o : Stroke} {ds : List Float} {vs : List ℕ} {ps : Lis
     rest : List (Run Endpoint)
     rest = let n = movedOf g (getD vs i 0) undrawn in runsFrom (n .size) (drop (i + 1) vs) (drop (n .first .0) ps)
 
-    pub going-few : Few o ds (runsFrom 0 vs ps) → Few o ds (endedOf g (getD vs i 0) ps)
+    pub going-few : CutsFew o ds (runsFrom 0 vs ps) → CutsFew o ds (endedOf g (getD vs i 0) ps)
     unfolding xs rest
     going-few f = few-between (o .near) ds (o .offset) (m .done) xs rest (rw (pass-split vs ps i g (m .done) (m .passing) undrawn h) at f)
 

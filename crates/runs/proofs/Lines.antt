@@ -1,7 +1,7 @@
 -- What is drawn of a run's dashes is the mesh of the runs that they are: dash by dash, each nothing or an open run of two kept points or more. Assumes nothing.
 use Prim.Native.Nat.{_+_}
 use mathlib.Core.Path.{_≡_, refl, sym, ap, _∙_}
-use mathlib.Core.Bool.{Bool, true, false, _||_, cond, true≢false}
+use mathlib.Core.Bool.{Bool, true, false, cond}
 use mathlib.Core.List.{List, [], _∷_}
 use native.Mathlib.Omega.{arith}
 use borrow.Author.Tests.{lt-ltb}
@@ -11,7 +11,7 @@ use Rattle.endpoint.specs.Endpoint.{vertexAfter}
 use Rattle.endpoint.specs.declared.Endpoint.{Endpoint}
 use Rattle.endpoint.specs.declared.VertexId.{VertexId}
 use Rattle.pieces.specs.Piece.{Piece, joined, from}
-use Rattle.options.specs.Options.{roundsJoins, roundsCaps, isRound}
+use Rattle.options.specs.Options.{isRound}
 use Rattle.options.specs.declared.Stroke.{Stroke}
 use Rattle.path.specs.Runs.{Run}
 use Rattle.kept.specs.Kept.{keptPoints}
@@ -22,14 +22,6 @@ use Rattle.dashed.specs.Dashed.{dashPiece, dashesPiece}
 use Rattle.run.specs.Run.{stripShape, roundOf, shapeCount, shapeVertices, shapeTriangles, shapeOf, shapePiece}
 use Rattle.run.proofs.Whole.{round-is, length-shape}
 use Rattle.runs.specs.Runs.{meshVertices, meshTriangles, meshPiece}
-
-or-left : (a b : Bool) → (a || b) ≡ false → a ≡ false
-or-left true b h = h
-or-left false b h = refl
-
-or-right : (a b : Bool) → (a || b) ≡ false → b ≡ false
-or-right true b h = absurd (true≢false h)
-or-right false b h = h
 
 pub two-kept : (p q : Endpoint) (ks : List Endpoint) → ltb 1 (length (p ∷ q ∷ ks)) ≡ true
 two-kept p q ks = lt-ltb 1 (length (p ∷ q ∷ ks)) (omega arith)
@@ -42,7 +34,7 @@ module _ (o : Stroke) where
     where
       go : (round : Bool) → isRound o ≡ round → roundPiece false o (roundOf o) base (p ∷ q ∷ ks) ≡ shapePiece o false base (stripShape false o (p ∷ q ∷ ks))
       go true h = rw h (sym (round-is o base false p q ks))
-      go false h = rw h (round-none false o (roundOf o) base p q ks (or-left (roundsJoins (o .«line_join»)) (roundsCaps (o .cap)) h) (or-right (roundsJoins (o .«line_join»)) (roundsCaps (o .cap)) h))
+      go false h = rw h (round-none false o (roundOf o) base p q ks h)
 
   shape-is : (d : List Endpoint) (p q : Endpoint) (ks : List Endpoint) → keptPoints (o .near) false d ≡ p ∷ q ∷ ks → shapeOf o false d ≡ stripShape false o (p ∷ q ∷ ks)
   unfolding shapeOf

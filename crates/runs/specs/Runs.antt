@@ -21,8 +21,8 @@ runsOf verbs coords = runsFrom 0 verbs (endpointsOf 0 coords)
 abbrev pub cutOf : Stroke → List Float → List (Run Endpoint) → List (Run Endpoint)
 cutOf o ds rs = cutRuns (o .near) ds (o .offset) rs
 
-abbrev pub Few : Stroke → List Float → List (Run Endpoint) → Type 0
-Few o ds rs = FewCuts (o .near) ds (o .offset) rs
+abbrev pub CutsFew : Stroke → List Float → List (Run Endpoint) → Type 0
+CutsFew o ds rs = FewCuts (o .near) ds (o .offset) rs
 
 -- of a path
 abbrev pub pathRuns : Stroke → List Float → List ℕ → List Float → List (Run Endpoint)

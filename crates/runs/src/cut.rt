@@ -15,7 +15,7 @@ ghost use lib.ListN.{length};
 ghost use Rattle.endpoint.specs.Endpoint.{idLimit};
 ghost use Rattle.kept.specs.Points.{endpointsOf};
 ghost use Rattle.pieces.specs.Piece.{lent, from, Fits, Passes};
-ghost use Rattle.runs.specs.Runs.{cutOf, Few, meshPiece};
+ghost use Rattle.runs.specs.Runs.{cutOf, CutsFew, meshPiece};
 ghost use Rattle.runs.specs.Cut.{KeptTo, Seconds};
 
 // Whether a run is cut, and if so where the coordinates of its kept points end, and which point is the second.
@@ -73,7 +73,7 @@ pub fn draw_cut(
     ds: &[f32],
 ) -> Place
     requires { ⌜ at .endpoint .0 + length (now p) < idLimit ⌝ }
-    requires { ⌜ Few (pass .stroke) (now ds) (record { closed = closed; points = endpointsOf (at .endpoint .0) (now p) } ∷ []) ⌝ }
+    requires { ⌜ CutsFew (pass .stroke) (now ds) (record { closed = closed; points = endpointsOf (at .endpoint .0) (now p) } ∷ []) ⌝ }
     requires { ⌜ Fits (pass .write) (from (at .vertex)) (meshPiece (pass .stroke) (from (at .vertex)) (cutOf (pass .stroke) (now ds) (record { closed = closed; points = endpointsOf (at .endpoint .0) (now p) } ∷ []))) (lent (now v) (now src) (now t)) ⌝ }
     ensures { λ r. ⌜ Passes (pass .write) (from (at .vertex)) (meshPiece (pass .stroke) (from (at .vertex)) (cutOf (pass .stroke) (now (ds .entry)) (record { closed = closed; points = endpointsOf (at .endpoint .0) (now (p .entry)) } ∷ []))) (lent (now (v .entry)) (now (src .entry)) (now (t .entry))) (lent (now (v .exit)) (now (src .exit)) (now (t .exit))) r ⌝ }
 {

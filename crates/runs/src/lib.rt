@@ -21,7 +21,7 @@ ghost use mathlib.Core.Path.{_≡_};
 ghost use Rattle.path.specs.Verbs.{names};
 ghost use Rattle.pieces.specs.Piece.{lent, Fits, Passes};
 ghost use Rattle.kept.specs.Points.{endpointsOf};
-ghost use Rattle.runs.specs.Runs.{runsOf, cutOf, Few, pathRuns, meshPiece};
+ghost use Rattle.runs.specs.Runs.{runsOf, cutOf, CutsFew, pathRuns, meshPiece};
 ghost use Rattle.runs.specs.Cursor.{undrawn, endedOf};
 ghost use Rattle.runs.specs.Passes.{Paired, Inside};
 
@@ -39,7 +39,7 @@ fn draw_ended(
     verb: u8,
 ) -> Place
     requires { ⌜ Inside g (now coords) ⌝ }
-    requires { ⌜ Few stroke (now ds) (endedOf g verb (endpointsOf 0 (now coords))) ⌝ }
+    requires { ⌜ CutsFew stroke (now ds) (endedOf g verb (endpointsOf 0 (now coords))) ⌝ }
     requires { ⌜ Fits write (g .place) (meshPiece stroke (g .place) (cutOf stroke (now ds) (endedOf g verb (endpointsOf 0 (now coords))))) (lent (now v) (now src) (now t)) ⌝ }
     requires { ⌜ names verb ≡ false ⌝ }
     ensures { λ r. ⌜ Passes write (g .place) (meshPiece stroke (g .place) (cutOf stroke (now (ds .entry)) (endedOf g verb (endpointsOf 0 (now (coords .entry)))))) (lent (now (v .entry)) (now (src .entry)) (now (t .entry))) (lent (now (v .exit)) (now (src .exit)) (now (t .exit))) r ⌝ }
@@ -89,7 +89,7 @@ fn draw_verb(
     verb: u8,
 ) -> Place
     requires { ⌜ Inside g (now coords) ⌝ }
-    requires { ⌜ Few (pass .stroke) (now ds) (endedOf g verb (endpointsOf 0 (now coords))) ⌝ }
+    requires { ⌜ CutsFew (pass .stroke) (now ds) (endedOf g verb (endpointsOf 0 (now coords))) ⌝ }
     requires { ⌜ Fits (pass .write) (g .place) (meshPiece (pass .stroke) (g .place) (cutOf (pass .stroke) (now ds) (endedOf g verb (endpointsOf 0 (now coords))))) (lent (now v) (now src) (now t)) ⌝ }
     ensures { λ r. ⌜ Passes (pass .write) (g .place) (meshPiece (pass .stroke) (g .place) (cutOf (pass .stroke) (now (ds .entry)) (endedOf g verb (endpointsOf 0 (now (coords .entry)))))) (lent (now (v .entry)) (now (src .entry)) (now (t .entry))) (lent (now (v .exit)) (now (src .exit)) (now (t .exit))) r ⌝ }
 {
@@ -111,7 +111,7 @@ pub fn draw_runs(
     ds: &[f32],
 ) -> Place
     requires { ⌜ Paired (now verbs) (now coords) ⌝ }
-    requires { ⌜ Few (pass .stroke) (now ds) (runsOf (now verbs) (now coords)) ⌝ }
+    requires { ⌜ CutsFew (pass .stroke) (now ds) (runsOf (now verbs) (now coords)) ⌝ }
     requires { ⌜ Fits (pass .write) undrawn (meshPiece (pass .stroke) undrawn (pathRuns (pass .stroke) (now ds) (now verbs) (now coords))) (lent (now v) (now src) (now t)) ⌝ }
     ensures { λ r. ⌜ Passes (pass .write) undrawn (meshPiece (pass .stroke) undrawn (pathRuns (pass .stroke) (now (ds .entry)) (now (verbs .entry)) (now (coords .entry)))) (lent (now (v .entry)) (now (src .entry)) (now (t .entry))) (lent (now (v .exit)) (now (src .exit)) (now (t .exit))) r ⌝ }
 {

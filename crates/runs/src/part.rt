@@ -18,7 +18,7 @@ ghost use Rattle.pieces.specs.Piece.{lent, Fits, Passes};
 ghost use Rattle.runs.specs.Cursor.{undrawn, endedOf};
 ghost use Rattle.runs.specs.Part.{notedOf, toldOf};
 ghost use Rattle.runs.specs.Passes.{Paired, Inside};
-ghost use Rattle.runs.specs.Runs.{runsOf, cutOf, Few, pathRuns, meshPiece};
+ghost use Rattle.runs.specs.Runs.{runsOf, cutOf, CutsFew, pathRuns, meshPiece};
 
 // How many runs have ended, and the vertices before the run that is asked for and up to its end, as far as they are drawn.
 pub struct Seen {
@@ -75,7 +75,7 @@ fn count_verb(
     verb: u8,
 ) -> Place
     requires { ⌜ Inside g (now coords) ⌝ }
-    requires { ⌜ Few stroke (now ds) (endedOf g verb (endpointsOf 0 (now coords))) ⌝ }
+    requires { ⌜ CutsFew stroke (now ds) (endedOf g verb (endpointsOf 0 (now coords))) ⌝ }
     requires { ⌜ Fits false (g .place) (meshPiece stroke (g .place) (cutOf stroke (now ds) (endedOf g verb (endpointsOf 0 (now coords))))) (lent (now v) (now src) (now t)) ⌝ }
     ensures { λ r. ⌜ Passes false (g .place) (meshPiece stroke (g .place) (cutOf stroke (now (ds .entry)) (endedOf g verb (endpointsOf 0 (now (coords .entry)))))) (lent (now (v .entry)) (now (src .entry)) (now (t .entry))) (lent (now (v .exit)) (now (src .exit)) (now (t .exit))) r ⌝ }
 {
@@ -97,7 +97,7 @@ fn count_seen(
 ) -> Told
     requires { ⌜ Paired (now verbs) (now coords) ⌝ }
     requires { ⌜ length (now verbs) < idLimit ⌝ }
-    requires { ⌜ Few stroke (now ds) (runsOf (now verbs) (now coords)) ⌝ }
+    requires { ⌜ CutsFew stroke (now ds) (runsOf (now verbs) (now coords)) ⌝ }
     requires { ⌜ Fits false undrawn (meshPiece stroke undrawn (pathRuns stroke (now ds) (now verbs) (now coords))) (lent (now v) (now src) (now t)) ⌝ }
     ensures { λ r. ⌜ r ≡ toldOf stroke (now (ds .entry)) run (runsOf (now (verbs .entry)) (now (coords .entry))) ⌝ }
 {
@@ -123,7 +123,7 @@ fn count_seen(
 pub fn count_run(verbs: &[u8], coords: &[f32], stroke: Stroke, ds: &[f32], run: usize) -> Told
     requires { ⌜ Paired (now verbs) (now coords) ⌝ }
     requires { ⌜ length (now verbs) < idLimit ⌝ }
-    requires { ⌜ Few stroke (now ds) (runsOf (now verbs) (now coords)) ⌝ }
+    requires { ⌜ CutsFew stroke (now ds) (runsOf (now verbs) (now coords)) ⌝ }
     requires { ⌜ Fits false undrawn (meshPiece stroke undrawn (pathRuns stroke (now ds) (now verbs) (now coords))) (lent [] [] []) ⌝ }
     ensures { λ r. ⌜ r ≡ toldOf stroke (now (ds .entry)) run (runsOf (now (verbs .entry)) (now (coords .entry))) ⌝ }
 {

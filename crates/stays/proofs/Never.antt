@@ -12,10 +12,8 @@ use Rattle.endpoint.specs.declared.Endpoint.{Endpoint}
 use Rattle.lists.specs.All.{All}
 use Rattle.lists.proofs.All.{all-append}
 use Rattle.dashes.specs.Pattern.{lengthLimit, offsetIn, lengthsIn, patternIn, isDash, wornOf, firstCut}
-use Rattle.dashes.specs.Marks.{marksOf}
+use Rattle.dashes.specs.Marks.{Mark, Cut, Corner, marksOf}
 use Rattle.dashes.specs.Dashes.{dashesFrom, dashesOf}
-use Rattle.dashes.specs.declared.spot.Mark.{Mark}
-use Rattle.dashes.specs.declared.spot.Mark.the-variants.{Cut, Corner}
 use Rattle.stays.specs.Stays.{Inside, Stays, Wears}
 use Rattle.stays.proofs.Wearing.{told, worn-ends}
 use Rattle.stays.proofs.Running.{AllIn, run-inside}

@@ -26,12 +26,10 @@ use Rattle.rounding.proofs.Differences.{gap, distance}
 use Rattle.rounding.proofs.Squares.{squared, lengthSquared, squareLength-value}
 use Rattle.rounding.proofs.Roots.{root-value}
 use Rattle.dashes.specs.Pattern.{lengthsIn, offsetIn, lengthAt, wornOf, firstCut, nextCut}
-use Rattle.dashes.specs.Marks.{fallsOn, cutOf, passedOf, spotOf, turnedOf, cutsOn, behind, cutMarks, marksFrom, marksOf}
+use Rattle.dashes.specs.Marks.{Mark, Cut, Corner, fallsOn, cutOf, passedOf, spotOf, turnedOf, cutsOn, behind, cutMarks, marksFrom, marksOf}
 use Rattle.dashes.specs.declared.pattern.Beat.{Beat}
 use Rattle.dashes.specs.declared.pattern.Wear.{Wear}
 use Rattle.dashes.specs.declared.spot.Spot.{Spot}
-use Rattle.dashes.specs.declared.spot.Mark.{Mark}
-use Rattle.dashes.specs.declared.spot.Mark.the-variants.{Cut, Corner}
 use Rattle.stays.proofs.Compare.{sub-plain, le-plain-true}
 use Rattle.stays.proofs.Wearing.{length-in, Ended, worn-ends}
 use Rattle.stays.proofs.Cutting.{Units, Placed, last, coordinate, cut-inside}

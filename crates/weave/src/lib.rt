@@ -32,7 +32,7 @@ pub struct Walk {
 }
 
 // The next point, which is kept.
-pub fn pass_kept(
+fn pass_kept(
     v: &mut [f32],
     src: &mut [u32],
     t: &mut [Index],
