@@ -18,7 +18,8 @@ static uint64_t take_number(void) {
 
 static size_t take_size(void) {
     uint64_t number = take_number();
-    return number < SIZE_MAX ? (size_t)number : SIZE_MAX;
+    if (number > SIZE_MAX) fail("a size is greater than any of this machine");
+    return (size_t)number;
 }
 
 static float take_float(void) {

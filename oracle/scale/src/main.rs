@@ -6,14 +6,15 @@
 //! fragments; `divisions` has COUNT short texts, each divided into up to three fragments in every
 //! way, and `limit` texts in fragments in which the text limit falls anywhere. The last three are
 //! left out where no call is named: `divisions`, `limit` and `big`. Prints how often each number was
-//! answered; ends with 1 at the first difference, printing its case line.
+//! answered; ends with 1 at the first difference, printing its case line. Where the library is
+//! another machine's (tools/near.c), STIPEHARBOR_SIZE_BITS says how long its sizes are: 32, or 64.
 
 mod call;
 mod list;
 mod radio;
 
 use call::Lists;
-use oracle::case::{Case, ListCase};
+use oracle::case::{Case, ListCase, PartCase};
 use oracle::gen::{any_list, big, case, damaged, sound, Kind, Rng};
 use radio::{at_limit, divisions};
 use std::iter::repeat_with;
@@ -59,7 +60,8 @@ fn main() -> ExitCode {
     let words: Vec<String> = std::env::args().skip(1).collect();
     match arguments(&words) {
         Some((seed, count, kinds)) => {
-            let equal = |kind: &(&str, Of)| compare(seed, count, kind.0, kind.1);
+            let most = greatest_size();
+            let equal = |kind: &(&str, Of)| compare(seed, count, kind.0, kind.1, most);
             if kinds.iter().all(equal) {
                 ExitCode::SUCCESS
             } else {
@@ -102,14 +104,39 @@ fn cases(seed: u64, count: usize, of: Of) -> Box<dyn Iterator<Item = Case>> {
     Box::new(each.take(count))
 }
 
+/// The greatest size that the library can be asked for.
+fn greatest_size() -> usize {
+    match std::env::var("STIPEHARBOR_SIZE_BITS").as_deref() {
+        Ok("32") => u32::MAX as usize,
+        _ => usize::MAX,
+    }
+}
+
+/// A case that asks for no size beyond the greatest, which stands for those.
+fn within(most: usize, case: Case) -> Case {
+    let list = |case: ListCase| ListCase {
+        count: case.count.min(most),
+        ..case
+    };
+    match case {
+        Case::Check(case) => Case::Check(list(case)),
+        Case::Attached(case) => Case::Attached(list(case)),
+        Case::Part(case) => Case::Part(PartCase {
+            run: case.run.min(most),
+            ..case
+        }),
+        case => case,
+    }
+}
+
 /// Whether all cases of a kind are answered alike.
-fn compare(seed: u64, count: usize, name: &str, of: Of) -> bool {
+fn compare(seed: u64, count: usize, name: &str, of: Of, most: usize) -> bool {
     let start = Instant::now();
     let mut lengths = Rng::new(!seed);
     let mut lists = Lists::default();
     let mut told = [0u64; 27];
     let mut done = 0;
-    for case in cases(seed, count, of) {
+    for case in cases(seed, count, of).map(|case| within(most, case)) {
         let held = match (of, &case) {
             (Of::Back, Case::StlWrite(case)) => lists.hold_back(case),
             _ => lists.hold(&mut lengths, &case),
