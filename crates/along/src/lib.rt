@@ -23,14 +23,14 @@ use pieces::Index;
 use strip::{Strip, lay_joint, step};
 
 // What a pass carries: what the rules use of the options, and whether it writes or only counts.
-#[derive(Drop)]
+#[derive(Clone, Copy)]
 pub struct Pass {
     pub stroke: Stroke,
     pub write: bool,
 }
 
 // Where a run stands: the numbers of its first endpoint and of its first vertex.
-#[derive(Drop)]
+#[derive(Clone, Copy)]
 pub struct At {
     pub endpoint: EndpointId,
     pub vertex: VertexId,

@@ -13,7 +13,7 @@ use vertices::list::{put_triangle, put_vertex};
 
 // What the vertices of an arc share: their centre, the half width, the centre's advancement, their record, and the direction that stands in where two are
 // as good as opposite.
-#[derive(Drop)]
+#[derive(Clone, Copy)]
 pub struct Hub {
     pub position: Point,
     pub half_width: f32,
@@ -23,7 +23,7 @@ pub struct Hub {
 }
 
 // Where an arc begins or ends: a vertex and its normal.
-#[derive(Drop)]
+#[derive(Clone, Copy)]
 pub struct End {
     pub vertex: VertexId,
     pub normal: Point,

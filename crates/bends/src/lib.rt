@@ -20,7 +20,7 @@ use strip::triangle::put_between;
 use strip::{Strip, step};
 
 // A joint with the leg that ends in it, and whether it is the end cap.
-#[derive(Drop)]
+#[derive(Clone, Copy)]
 pub struct Bend {
     pub joint: EndpointData,
     pub leg: Leg,

@@ -27,7 +27,7 @@ use pieces::{Index, Place, next_vertex};
 use woven::place_of;
 
 // A dash of two kept points or more: the first, and the trail at the second.
-#[derive(Drop)]
+#[derive(Clone, Copy)]
 pub struct Dash {
     pub from: Endpoint,
     pub trail: Trail,

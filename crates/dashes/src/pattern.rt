@@ -10,7 +10,7 @@ pub struct Wear {
 }
 
 // A cut b: its advancement, and the number of the length that ends there.
-#[derive(Drop)]
+#[derive(Clone, Copy)]
 pub struct Beat {
     pub index: usize,
     pub at: f32,

@@ -9,7 +9,7 @@ use endpoint::Endpoint;
 use plane::vector::{length, minus, plus, times};
 
 // An edge with the advancements at its ends, and the next cut, which may lie on it or behind it.
-#[derive(Drop)]
+#[derive(Clone, Copy)]
 pub struct Spot {
     pub from: Endpoint,
     pub to: Endpoint,

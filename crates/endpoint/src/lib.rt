@@ -5,10 +5,10 @@ ghost use Rattle.endpoint.specs.Endpoint.{id_limit, endpoint_after, vertex_after
 use plane::vector::Point;
 
 // Endpoints and vertices are counted apart.
-#[derive(Drop)]
+#[derive(Clone, Copy)]
 pub struct EndpointId(pub u32);
 
-#[derive(Drop)]
+#[derive(Clone, Copy)]
 pub struct VertexId(pub u32);
 
 // The endpoint that comes n behind another, and the vertex that does.
@@ -27,13 +27,13 @@ pub fn vertex_after(base: VertexId, n: usize) -> VertexId
 }
 
 // A begin's or a line's point with its number.
-#[derive(Drop)]
+#[derive(Clone, Copy)]
 pub struct Endpoint {
     pub position: Point,
     pub id: EndpointId,
 }
 
-#[derive(Drop)]
+#[derive(Clone, Copy)]
 pub enum LineJoin {
     Miter,
     MiterClip,
@@ -41,14 +41,14 @@ pub enum LineJoin {
     Round,
 }
 
-#[derive(Drop)]
+#[derive(Clone, Copy)]
 pub enum Side {
     Positive,
     Negative,
 }
 
 // One side of a join: its one point, or its first and its second.
-#[derive(Drop)]
+#[derive(Clone, Copy)]
 pub enum SidePoints {
     Single(f32, f32),
     Pair(f32, f32, f32, f32),
@@ -56,7 +56,7 @@ pub enum SidePoints {
 
 // Which sides of a join are inner joins. The source's one field keeps the last side worked, so it
 // names the negative side where both are.
-#[derive(Drop)]
+#[derive(Clone, Copy)]
 pub enum InnerJoin {
     Neither,
     Positive,
@@ -64,7 +64,7 @@ pub enum InnerJoin {
     Both,
 }
 
-#[derive(Drop)]
+#[derive(Clone, Copy)]
 pub struct EndpointData {
     pub position: Point,
     pub half_width: f32,

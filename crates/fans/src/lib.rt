@@ -13,7 +13,7 @@ use plane::vector::{Point, divided, minus};
 use vertices::base::side_points;
 
 // What of a stroke is round, and how deep its arcs go.
-#[derive(Drop)]
+#[derive(Clone, Copy)]
 pub struct Round {
     pub joins: bool,
     pub caps: bool,

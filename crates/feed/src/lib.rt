@@ -15,7 +15,7 @@ use kept::endpoint_at;
 use kept::near::is_near;
 
 // The edge that comes next, with the next cut; the index of the next point to look at; whether the way back to p0 is still to come; whether any mark is.
-#[derive(Drop)]
+#[derive(Clone, Copy)]
 pub struct Feed {
     pub spot: Spot,
     pub next: usize,

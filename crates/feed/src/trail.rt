@@ -7,7 +7,7 @@ use endpoint::{Endpoint, EndpointId};
 use kept::near::is_near;
 
 // The last kept point of a dash, whether the dash goes on behind it, and the feed there.
-#[derive(Drop)]
+#[derive(Clone, Copy)]
 pub struct Trail {
     pub last: Endpoint,
     pub on: bool,

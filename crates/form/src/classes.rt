@@ -3,7 +3,7 @@ ghost use Rattle.std.specs.Prelude.{◌≡◌};
 ghost use Rattle.form.specs.Bytes.{class_of};
 
 // The commands, in either case of their letters: in lower case numbers are relative.
-#[derive(Drop)]
+#[derive(Clone, Copy)]
 pub enum Letter {
     // M and m.
     Move,
@@ -16,7 +16,7 @@ pub enum Letter {
 }
 
 // What a byte is to a path text.
-#[derive(Drop)]
+#[derive(Clone, Copy)]
 pub enum Class {
     Blank,
     Comma,

@@ -10,7 +10,7 @@ use crate::machine::Letters::{AnyLetter, Between, FirstMove, NoLetter};
 use crate::machine::Stage::{Closed, Fraction, Gap, Lost, Pointed, Signed, Start, Want, Whole};
 
 // Which number of a command a text is at: x or y of a pair, or the one of H and V.
-#[derive(Drop)]
+#[derive(Clone, Copy)]
 pub enum Axis {
     X,
     Y,
@@ -18,7 +18,7 @@ pub enum Axis {
 }
 
 // How far a text has come between two bytes.
-#[derive(Drop)]
+#[derive(Clone, Copy)]
 pub enum Stage {
     // Before the first command.
     Start,
@@ -42,7 +42,7 @@ pub enum Stage {
 
 // Where a text stands between two bytes: how far it has come, in or before the number of which axis, with how many digits after its
 // point.
-#[derive(Drop)]
+#[derive(Clone, Copy)]
 pub struct Mode {
     pub stage: Stage,
     pub axis: Axis,
@@ -61,7 +61,7 @@ pub enum Letters {
 
 // The number that a text is in, with which a digit or a point goes on: none, one behind its sign, before its point, at once behind
 // it, or later.
-#[derive(Drop)]
+#[derive(Clone, Copy)]
 pub enum Going {
     Fresh,
     Opened,

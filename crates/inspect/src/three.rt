@@ -5,7 +5,7 @@ ghost use Rattle.inspect.specs.Faults.{triangle_at, two_alike_in};
 ghost use Rattle.inspect.specs.Three.{tri_of};
 
 // The numbers of its vertices.
-#[derive(Drop)]
+#[derive(Clone, Copy)]
 pub(crate) struct Three {
     pub a: u32,
     pub b: u32,

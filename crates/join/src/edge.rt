@@ -6,14 +6,14 @@ ghost use Rattle.join.specs.Edge.{edge_side_of, edge_of};
 use plane::vector::{Point, divided, length, minus, normalize, plus, times, turned};
 
 // One side of an edge: the points beside its two ends, and the direction from one to the other.
-#[derive(Drop)]
+#[derive(Clone, Copy)]
 pub struct EdgeSide {
     pub from: Point,
     pub to: Point,
     pub v: Point,
 }
 
-#[derive(Drop)]
+#[derive(Clone, Copy)]
 pub struct Edge {
     pub length: f32,
     pub t: Point,

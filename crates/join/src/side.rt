@@ -12,7 +12,7 @@ use plane::vector::{Point, cross, dot, minus, negated, plus, square_length, time
 
 // What both sides of a join see: its position, the half width, the limit, the lengths of the edges before and after it, the sum of their
 // directions, and its kind.
-#[derive(Drop)]
+#[derive(Clone, Copy)]
 pub struct Turn {
     pub position: Point,
     pub half_width: f32,
@@ -24,7 +24,7 @@ pub struct Turn {
 }
 
 // What one side sees: the directions of its edges, and the normal between them.
-#[derive(Drop)]
+#[derive(Clone, Copy)]
 pub struct Corner {
     pub v0: Point,
     pub v1: Point,
@@ -34,7 +34,7 @@ pub struct Corner {
 
 // Which of the source's branches a side takes: a single point, an inner join, points cut off at the limit, or the points beside the join. In this order a concave side's
 // kind is whether it overshoots, and `decide` is just small enough to be inlined.
-#[derive(Drop)]
+#[derive(Clone, Copy)]
 pub enum Kind {
     Single,
     Inner,

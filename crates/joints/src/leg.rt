@@ -5,7 +5,7 @@ ghost use Rattle.joints.specs.Leg.{leg_of, next_leg_of};
 use endpoint::Endpoint;
 use join::edge::{Edge, edge_of};
 
-#[derive(Drop)]
+#[derive(Clone, Copy)]
 pub struct Leg {
     pub from: Endpoint,
     pub to: Endpoint,

@@ -6,7 +6,7 @@ use pieces::Place;
 use refusals::{ACCEPTED, Refusal, TRIANGLE_ROOM, VERTEX_ROOM, verdict_of};
 
 // A mesh, or the first refusal by number. A mesh and the refusals for want of room have both counts: vertices, then triangles.
-#[derive(Drop)]
+#[derive(Clone, Copy)]
 pub enum Meshed {
     Mesh(usize, usize),
     // Refusals 1 to 4, and 26.
@@ -27,7 +27,7 @@ pub struct MeshAnswer {
 }
 
 // How many vertices and triangles there is room for.
-#[derive(Drop)]
+#[derive(Clone, Copy)]
 pub struct Rooms {
     pub vertices: usize,
     pub triangles: usize,

@@ -7,7 +7,7 @@ use endpoint::LineJoin;
 use refusals::{ACCEPTED, Refusal, verdict_of};
 
 // What a caller may choose. An option outside its range is refused with 1.
-#[derive(Drop)]
+#[derive(Clone, Copy)]
 pub struct Options {
     // The stripe's width, in the units of the coordinates: 1/256 to 16,384.
     pub width: f32,
@@ -28,7 +28,7 @@ pub struct Options {
     pub offset: f32,
 }
 
-#[derive(Drop)]
+#[derive(Clone, Copy)]
 pub enum LineCap {
     Butt,
     Square,
@@ -36,7 +36,7 @@ pub enum LineCap {
 }
 
 // All that the rules use of the options.
-#[derive(Drop)]
+#[derive(Clone, Copy)]
 pub struct Stroke {
     // The rules' h.
     pub half_width: f32,

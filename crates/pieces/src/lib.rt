@@ -10,7 +10,7 @@ pub type Index = u32;
 
 // Where a pass stands in the lists that it is lent: the number that the first vertex there has, and how many vertices and
 // triangles stand before.
-#[derive(Drop)]
+#[derive(Clone, Copy)]
 pub struct Place {
     pub base: VertexId,
     pub vertices: usize,

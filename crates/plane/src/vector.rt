@@ -6,7 +6,7 @@ ghost use Rattle.plane.specs.Vector.{plus_of, minus_of, times_of, divided_of, ne
 use root::Rooted;
 
 // A point, or a vector from one to another.
-#[derive(Drop)]
+#[derive(Clone, Copy)]
 pub struct Point {
     pub x: f32,
     pub y: f32,

@@ -12,7 +12,7 @@ use reader::TEXT_LIMIT;
 use reader::pass::{Passage, set_out};
 
 // The state between two calls. One that no calls lead to counts as closed.
-#[derive(Drop)]
+#[derive(Clone, Copy)]
 pub struct Radio {
     // How far the text has come.
     pub passage: Passage,

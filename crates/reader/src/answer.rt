@@ -8,7 +8,7 @@ use path::verbs::VERB_LIMIT;
 use refusals::{ACCEPTED, LARGE_NUMBER, LONG_TEXT, MALFORMED_TEXT, READER_ROOM};
 
 // A path, or the first refusal by number.
-#[derive(Drop)]
+#[derive(Clone, Copy)]
 pub enum Reading {
     // How many verbs, and how many coordinates.
     Path(usize, usize),

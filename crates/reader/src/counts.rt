@@ -5,14 +5,14 @@ ghost use Rattle.reader.specs.Counts.{verb_count, coord_count, large_of, or_else
 use values::events::Event;
 
 // A place, where there is one.
-#[derive(Drop)]
+#[derive(Clone, Copy)]
 pub enum Found {
     Nowhere,
     At(usize),
 }
 
 // How many verbs and coordinates there are, which is where the next ones are put. Behind a number that is too large there is no such place.
-#[derive(Drop)]
+#[derive(Clone, Copy)]
 pub struct Counts {
     pub verbs: usize,
     pub coords: usize,

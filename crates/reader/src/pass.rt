@@ -97,7 +97,7 @@ fn put_called(verbs: &mut [u8], coords: &mut [f32], c: Counts, called: Called, l
 }
 
 // How far a text has come.
-#[derive(Drop)]
+#[derive(Clone, Copy)]
 pub struct Passage {
     pub state: State,
     pub counts: Counts,

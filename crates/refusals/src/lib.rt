@@ -57,7 +57,7 @@ pub const AFTER_CLOSE: u32 = 25;
 pub const TOO_MANY_CUTS: u32 = 26;
 
 // Refusals 1 to 4, and 26 behind them: what is wrong with the options or the path of a call.
-#[derive(Drop)]
+#[derive(Clone, Copy)]
 pub enum Refusal {
     // An option outside its range.
     OutOfRange,

@@ -13,7 +13,7 @@ use plane::vector::{Point, normalize};
 use vertices::cap::{put_cap_triangles, put_corner};
 
 // The corners of the square, in its order.
-#[derive(Drop)]
+#[derive(Clone, Copy)]
 pub struct Corners {
     pub a: End,
     pub b: End,

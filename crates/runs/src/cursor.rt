@@ -8,7 +8,7 @@ use path::verbs::names_point;
 use pieces::Place;
 
 // The number of the current run's first endpoint, how many of its points are named, and what the runs before it drew.
-#[derive(Drop)]
+#[derive(Clone, Copy)]
 pub struct Cursor {
     pub first: EndpointId,
     pub size: usize,

@@ -19,7 +19,7 @@ pub mod triangle;
 
 // How far a run's strip has come: where the next vertex and the next triangle go, and its first and
 // its last section once it has begun.
-#[derive(Drop)]
+#[derive(Clone, Copy)]
 pub struct Strip {
     pub place: Place,
     pub begun: bool,

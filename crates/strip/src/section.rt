@@ -8,7 +8,7 @@ use crate::joint::{negative_count, positive_count};
 use endpoint::{EndpointData, VertexId, vertex_after};
 
 // The vertices N and P.
-#[derive(Drop)]
+#[derive(Clone, Copy)]
 pub struct Section {
     pub negative: VertexId,
     pub positive: VertexId,

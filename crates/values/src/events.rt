@@ -7,7 +7,7 @@ use form::classes::{Class, Letter};
 use form::machine::{Axis, ends_point};
 
 // The last number is the place behind the event's last byte; behind the end of the text it is one more than the length.
-#[derive(Drop)]
+#[derive(Clone, Copy)]
 pub enum Event {
     Nothing,
     // A run begins at a point.

@@ -8,7 +8,7 @@ use decimals::digits::{fraction_digit, whole_digit};
 use form::classes::Class;
 use form::machine::Going;
 
-#[derive(Drop)]
+#[derive(Clone, Copy)]
 pub struct Known {
     pub pen: Pen,
     // The number: whether a minus stands before it, its digits before and after the point, the place of its first byte.

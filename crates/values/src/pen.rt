@@ -6,7 +6,7 @@ use decimals::digits::is_beyond;
 use form::classes::Letter;
 use form::machine::{Axis, ends_point};
 
-#[derive(Drop)]
+#[derive(Clone, Copy)]
 pub struct Pen {
     // Whether the next point begins a run.
     pub fresh: bool,

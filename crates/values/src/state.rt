@@ -11,7 +11,7 @@ use form::classes::class_of;
 use form::machine::{Mode, axis_at, ends_before, first_mode, is_inside, next, row_of};
 
 // What the bytes so far come to.
-#[derive(Drop)]
+#[derive(Clone, Copy)]
 pub struct State {
     pub mode: Mode,
     pub known: Known,

@@ -8,7 +8,7 @@ use endpoint::{EndpointData, blank};
 
 // Three slots used in turn, the oldest endpoint in slot `start`. The contracts hold whatever `start`
 // and `count` are, and speak of `items`: two windows with the same items are the same to callers.
-#[derive(Drop)]
+#[derive(Clone, Copy)]
 pub struct PointBuffer {
     points: [EndpointData; 3],
     start: usize,
