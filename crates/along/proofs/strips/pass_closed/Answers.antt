@@ -1,0 +1,15 @@
+-- `along::strips::pass_closed` meets its contract. Assumes nothing.
+use Rattle.along.proofs.Writing.{way_has, round_has, closed_puts}
+use Rattle.along.proofs.strips.pass_closed.Goals as goal
+
+pub pass_points-w-requires : goal.pass_points-w-requires
+pass_points-w-requires c =
+    (c.requires.within.few, way_has c.args.pass.stroke _ _ _ c.first_leg-leg.ensures c.start.ensures c.requires.strip_fits)
+
+pub go_round-requires : goal.go_round-requires
+go_round-requires c =
+    record { within = c.requires.within; strip_fits = round_has c.args.pass.stroke _ _ _ c.first_leg-leg.ensures c.start.ensures c.requires.strip_fits c.pass_points-w.ensures }
+
+pub returns : goal.returns
+returns c =
+    closed_puts c.args.pass.stroke _ _ _ c.first_leg-leg.ensures c.start.ensures c.requires.strip_fits c.pass_points-w.ensures c.go_round.ensures

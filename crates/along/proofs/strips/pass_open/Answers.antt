@@ -1,0 +1,32 @@
+-- `along::strips::pass_open` meets its contract. Assumes nothing.
+use native.Mathlib.Omega.{arith}
+use Rattle.along.proofs.Writing.{begin_has, pass_has, finish_has, open_puts}
+use Rattle.along.proofs.strips.pass_open.Goals as goal
+
+pub begin-begun-requires : goal.begin-begun-requires
+begin-begun-requires c =
+    begin_has c.args.pass.stroke _ _ _ c.first_leg-leg.ensures c.requires.strip_fits
+
+pub pass_points-w-requires : goal.pass_points-w-requires
+pass_points-w-requires c =
+    (c.requires.within.few, pass_has c.args.pass.stroke _ _ _ c.first_leg-leg.ensures c.requires.strip_fits c.begin-begun.ensures)
+
+pub finish-requires : goal.finish-requires
+finish-requires c =
+    finish_has c.args.pass.stroke _ _ _ c.first_leg-leg.ensures c.requires.strip_fits c.begin-begun.ensures c.pass_points-w.ensures
+
+pub shape_of-v : goal.shape_of-v
+shape_of-v c =
+    omega (arith, c.finish.auto, c.pass_points-w.auto, c.begin-begun.auto)
+
+pub shape_of-src : goal.shape_of-src
+shape_of-src c =
+    omega (arith, c.finish.auto, c.pass_points-w.auto, c.begin-begun.auto)
+
+pub shape_of-t : goal.shape_of-t
+shape_of-t c =
+    omega (arith, c.finish.auto, c.pass_points-w.auto, c.begin-begun.auto)
+
+pub returns : goal.returns
+returns c =
+    open_puts c.args.pass.stroke _ _ _ c.first_leg-leg.ensures c.requires.strip_fits c.begin-begun.ensures c.pass_points-w.ensures c.finish.ensures

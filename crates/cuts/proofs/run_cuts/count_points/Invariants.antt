@@ -1,0 +1,10 @@
+-- `cuts::run_cuts::count_points` meets its contract. The plan: the loop's invariant is Counting's `Counting`, from its start by one point a turn to the end of the points. Assumes nothing.
+use Prim.Native.Nat.{◌-◌}
+use Rattle.cuts.proofs.Counting.{Counting}
+use Rattle.cuts.proofs.run_cuts.count_points.Given as goal
+
+abbrev pub invariant-loop-j : goal.invariant-loop-j
+invariant-loop-j l = Counting l.limit l.ds l.p l.first.0 l.i l.initial.t l.j l.t
+
+abbrev pub decreases-loop-j : goal.decreases-loop-j
+decreases-loop-j l = l.end - l.j

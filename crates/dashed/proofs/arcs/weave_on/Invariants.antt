@@ -1,0 +1,15 @@
+-- `dashed::arcs::weave_on` meets its contract. The plan: `Weaving` says how far the dash has come, point by point. Assumes nothing.
+use mathlib.Core.Path.{◌≡◌}
+use lib.ListN.{length}
+use Rattle.pieces.specs.Piece.{lent}
+use Rattle.feed.specs.Trail.{next_points}
+use Rattle.dashed.proofs.Weaving.{Weaving}
+use Rattle.dashed.proofs.arcs.weave_on.Given as goal
+
+abbrev pub invariant-loop-n : goal.invariant-loop-n
+invariant-loop-n l =
+    Weaving l.pass l.r l.p l.first.0 l.ds l.initial.w l.initial.n (lent l.initial.v l.initial.src l.initial.t) l.w l.n (lent l.v l.src l.t)
+    × (length l.v ≡ length l.initial.v) × (length l.src ≡ length l.initial.src) × (length l.t ≡ length l.initial.t)
+
+abbrev pub decreases-loop-n : goal.decreases-loop-n
+decreases-loop-n l = length (next_points l.pass.stroke.near l.p l.first.0 l.ds l.n)

@@ -1,0 +1,14 @@
+-- `dashed::arcs::weave_one` meets its contract. Assumes nothing.
+use Rattle.dashed.proofs.Stripping.{one_walked}
+use Rattle.dashed.proofs.Weaving.{one_woven}
+use Rattle.dashed.proofs.arcs.weave_one.Goals as goal
+
+pub pass_points-requires : goal.pass_points-requires
+pass_points-requires c =
+    let a = c.args in
+    record { p_bound = c.requires.well_numbered; weave_fits = rw (one_woven a.pass.stroke a.w.leg a.q) c.requires.weave_fits }
+
+pub returns : goal.returns
+returns c =
+    let a = c.args in
+    rw (one_woven a.pass.stroke a.w.leg a.q, one_walked a.pass.stroke a.w.leg a.q) at c.pass_points.ensures

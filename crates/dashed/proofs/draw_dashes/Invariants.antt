@@ -1,0 +1,17 @@
+-- `dashed::draw_dashes` meets its contract. The plan: `Drawing` says how far the dashes have come, one dash a turn. Assumes nothing.
+use mathlib.Core.Path.{◌≡◌}
+use lib.ListN.{length}
+use Rattle.pieces.specs.Piece.{lent}
+use Rattle.kept.specs.Looks.{run_from}
+use Rattle.feed.specs.Trail.{trail_dashes}
+use Rattle.dashed.specs.Dashed.{run_piece}
+use Rattle.dashed.proofs.Drawing.{Drawing}
+use Rattle.dashed.proofs.draw_dashes.Given as goal
+
+abbrev pub invariant-loop-trail : goal.invariant-loop-trail
+invariant-loop-trail l =
+    Drawing l.pass l.r l.p l.first.0 l.ds l.initial.k (run_piece l.pass.stroke l.r l.initial.k.base l.closed l.ds l.offset (run_from l.pass.stroke.near l.p l.first.0 l.i)) (lent l.initial.v l.initial.src l.initial.t) l.k l.trail (lent l.v l.src l.t)
+    × (length l.v ≡ length l.initial.v) × (length l.src ≡ length l.initial.src) × (length l.t ≡ length l.initial.t)
+
+abbrev pub decreases-loop-trail : goal.decreases-loop-trail
+decreases-loop-trail l = length (trail_dashes l.pass.stroke.near l.p l.first.0 l.ds l.trail)

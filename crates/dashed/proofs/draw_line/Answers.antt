@@ -1,0 +1,22 @@
+-- `dashed::draw_line` meets its contract. Assumes nothing.
+use mathlib.Core.Bool.{false}
+use Rattle.woven.proofs.Runs.{strip_fits, arcs_fit}
+use Rattle.dashed.proofs.Following.{fits_numbered}
+use Rattle.dashed.proofs.Drawing.{line_plain, line_round}
+use Rattle.dashed.proofs.draw_line.Goals as goal
+
+pub strip_dash-s-requires : goal.strip_dash-s-requires
+strip_dash-s-requires c =
+    (c.requires.dash_fits, strip_fits false c.args.pass.stroke c.args.r c.args.at.vertex _ c.requires.fits (fits_numbered c.requires.dash_fits))
+
+pub weave_behind-place-requires : goal.weave_behind-place-requires
+weave_behind-place-requires c =
+    (c.requires.dash_fits, arcs_fit false c.args.pass.stroke c.args.r c.args.at.vertex _ c.requires.fits (fits_numbered c.requires.dash_fits) c.strip_dash-s.ensures.strip c.requires.detail_bound)
+
+pub returns-then-r : goal.returns-then-r
+returns-then-r c =
+    line_round c.args.pass c.args.r _ _ _ c.args.d c.requires.dash_fits c.strip_dash-s.ensures c.requires.fits c.weave_behind-place.ensures
+
+pub returns : goal.returns
+returns c =
+    line_plain c.args.pass c.args.r _ _ _ c.args.d c.requires.dash_fits c.strip_dash-s.ensures c.if-r.false

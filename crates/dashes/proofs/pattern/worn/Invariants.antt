@@ -1,0 +1,10 @@
+-- `dashes::pattern::worn` meets its contract. The invariant: wearing the offset down from the first length comes to the same as wearing what remains
+use Prim.Native.Nat.{◌-◌}
+use Rattle.dashes.proofs.Looping.{Wearing}
+use Rattle.dashes.proofs.pattern.worn.Given as goal
+
+abbrev pub invariant-loop-i : goal.invariant-loop-i
+invariant-loop-i l = Wearing l.ds l.offset 131072 l.i l.rest
+
+abbrev pub decreases-loop-i : goal.decreases-loop-i
+decreases-loop-i l = 131072 - l.i

@@ -1,0 +1,15 @@
+-- `kept::first_far` meets its contract. The plan: as long as no point was far, what is kept behind the first is what is kept of the points from i on; a point that is
+use Prim.Native.Nat.{◌-◌, ◌/◌, ◌≤◌}
+use mathlib.Core.Path.{◌≡◌}
+use lib.ListN.{length, drop}
+use Rattle.kept.specs.Kept.{kept_behind}
+use Rattle.kept.specs.Points.{endpoints_of, endpoint_at}
+use Rattle.kept.proofs.first_far.Given as goal
+
+abbrev pub invariant-loop-i : goal.invariant-loop-i
+invariant-loop-i l =
+    let o = endpoint_at l.p l.first.0 0 in
+    (1 ≤ l.i) × (l.i ≤ length l.p / 2) × (kept_behind l.limit o (drop 1 (endpoints_of l.first.0 l.p)) ≡ kept_behind l.limit o (drop l.i (endpoints_of l.first.0 l.p)))
+
+abbrev pub decreases-loop-i : goal.decreases-loop-i
+decreases-loop-i l = l.end - l.i

@@ -1,0 +1,20 @@
+-- `options::line_join_of` meets its contract. Assumes nothing.
+use borrow.Author.Tests.{ne_eqb}
+use Rattle.options.specs.Options.{line_join_of}
+use Rattle.options.proofs.line_join_of.Goals as goal
+
+pub returns-in-0 : goal.returns-in-0
+unfolding line_join_of
+returns-in-0 c = rw c.in-0.is
+
+pub returns-in-1 : goal.returns-in-1
+unfolding line_join_of
+returns-in-1 c = rw c.in-1.is
+
+pub returns-in-2 : goal.returns-in-2
+unfolding line_join_of
+returns-in-2 c = rw c.in-2.is
+
+pub returns-in_default : goal.returns-in_default
+unfolding line_join_of
+returns-in_default c = rw (ne_eqb _ 0 c.in-0.rest.0.0.1, ne_eqb _ 1 c.in-0.rest.0.1, ne_eqb _ 2 c.in-0.rest.1)

@@ -1,0 +1,8 @@
+-- `path::coordinates::first_outside` meets its contract. Assumes nothing.
+use Rattle.path.proofs.coordinates.first_outside.Goals as goal
+
+pub returns-then-are_in_limits : goal.returns-then-are_in_limits
+returns-then-are_in_limits c = c.are_in_limits.ensures c.if-are_in_limits.true
+
+pub returns : goal.returns
+returns c = c.search.ensures

@@ -1,0 +1,11 @@
+-- `path::coordinates::search` meets its contract. Assumes nothing.
+use Prim.Native.Nat.{◌-◌}
+use lib.ListN.{length}
+use Rattle.path.proofs.Bounding.{Within}
+use Rattle.path.proofs.coordinates.search.Given as goal
+
+abbrev pub invariant-loop-i : goal.invariant-loop-i
+invariant-loop-i l = Within l.coords l.i
+
+abbrev pub decreases-loop-i : goal.decreases-loop-i
+decreases-loop-i l = length l.coords - l.i

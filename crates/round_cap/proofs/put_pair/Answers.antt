@@ -1,0 +1,16 @@
+-- `round_cap::put_pair` meets its contract. Assumes nothing.
+use mathlib.Core.Path.{refl}
+use native.Mathlib.Nat.{le_trans}
+use lib.Dec.{lit≤}
+use Rattle.lists.specs.Over.{flat}
+use Rattle.lists.proofs.Parts.{behind}
+use Rattle.round_cap.specs.Cap.{pair_of}
+use Rattle.round_cap.proofs.put_pair.Goals as goal
+
+pub returns : goal.returns
+unfolding pair_of flat
+returns c =
+    let room = c.requires in
+    let one = c.put_corner.ensures in
+    let two = c.put_corner-2.ensures in
+    record { v_after = behind _ _ _ _ _ 5 refl (le_trans (lit≤ tt) room.0) one.0 two.0; src_after = behind _ _ _ _ _ 1 refl (le_trans (lit≤ tt) room.1) one.1 two.1 }

@@ -1,0 +1,16 @@
+-- `run::alone::draw_alone` meets its contract. Assumes nothing.
+use mathlib.Core.Path.{sym, ◌∙◌}
+use Rattle.run.proofs.Whole.{nothing_drawn, cap_fits, cap_drawn}
+use Rattle.run.proofs.alone.draw_alone.Goals as goal
+
+pub lay_empty_cap-requires : goal.lay_empty_cap-requires
+lay_empty_cap-requires c =
+    record { id_lt_id_limit = c.requires.id_lt_id_limit; draw_fits = cap_fits c.args.pass.stroke _ _ c.args.p (rw (sym c.draws_cap.ensures ∙ c.if-draws_cap.true) at c.requires.draw_fits) }
+
+pub returns-then-draws_cap : goal.returns-then-draws_cap
+returns-then-draws_cap c =
+    let a = c.args in
+    rw (sym c.draws_cap.ensures ∙ c.if-draws_cap.true) (cap_drawn a.pass.stroke _ _ a.p c.cap_size-n.ensures c.lay_empty_cap.ensures)
+
+pub returns : goal.returns
+returns c = rw (sym c.draws_cap.ensures ∙ c.if-draws_cap.false) (nothing_drawn c.args.pass.stroke _ _)

@@ -1,0 +1,49 @@
+-- `runs::draw_runs` meets its contract. The plan: the loop's invariant is Drawing's `Going`, from its start (`going_none`) by one verb a turn (`going_turn`) to the end of the verbs (`going_all`). Assumes nothing.
+use borrow.Author.Rules.{rules}
+use Prim.Native.Nat.{◌-◌}
+use mathlib.Core.Path.{refl}
+use native.Mathlib.Omega.{arith}
+use Rattle.runs.specs.Passes.{Inside}
+use Rattle.runs.proofs.Drawing.{going_none, going_inside, going_few, going_fits, going_turn, going_all}
+use Rattle.runs.proofs.draw_runs.Goals.{At-loop-i, Start}
+use Rattle.runs.proofs.draw_runs.Goals as goal
+
+-- from the loop back to the start
+abbrev entry : At-loop-i invariant-loop decreases-loop → Start invariant-loop decreases-loop
+entry c = c
+
+inside : (c : At-loop-i invariant-loop decreases-loop) → Inside c.loop-i.g (entry c).args.coords.now
+inside c = going_inside c.loop-i.invariant.0 (entry c).args.coords.now (entry c).requires.0
+
+pub loop-i-init : goal.loop-i-init
+loop-i-init c = (rw c.start-g.ensures (going_none _ _ _ _ _ _), refl, refl, refl)
+
+pub draw_verb-place-requires : goal.draw_verb-place-requires
+draw_verb-place-requires c = let taken = c.loop-i-test.true in (inside c, (going_few c.loop-i.invariant.0 taken (entry c).requires.1.0, going_fits c.loop-i.invariant.0 taken (entry c).requires.1.1))
+
+pub moved-g-requires : goal.moved-g-requires
+moved-g-requires c = omega (arith, inside c)
+
+pub overflow_add-i : goal.overflow_add-i
+overflow_add-i c =
+    omega (arith, c.loop-i-test.true, c.well_formed.1.1.1.1.0)
+
+pub loop-i-smaller : goal.loop-i-smaller
+loop-i-smaller c = omega (arith, c.loop-i-test.true)
+
+pub loop-i-preserved : goal.loop-i-preserved
+loop-i-preserved c =
+    let l = c.loop-i.invariant in
+    (rw c.moved-g.ensures (going_turn l.0 c.loop-i-test.true c.draw_verb-place.ensures), search (rules, l.1), search (rules, l.2), search (rules, l.3))
+
+pub shape_of-v : goal.shape_of-v
+shape_of-v c = c.loop-i.invariant.1
+
+pub shape_of-src : goal.shape_of-src
+shape_of-src c = c.loop-i.invariant.2
+
+pub shape_of-t : goal.shape_of-t
+shape_of-t c = c.loop-i.invariant.3
+
+pub returns : goal.returns
+returns c = going_all c.loop-i.invariant.0 c.loop-i-test.false

@@ -1,0 +1,15 @@
+-- `stipeharbor::fragments::stipeharbor_radio_close` meets its contract. Assumes nothing.
+use Rattle.stipeharbor.proofs.Closing.{close_out, close_none}
+use Rattle.stipeharbor.proofs.fragments.stipeharbor_radio_close.Goals as goal
+
+pub returns-then-a-ne-AFTER_CLOSE : goal.returns-then-a-ne-AFTER_CLOSE
+returns-then-a-ne-AFTER_CLOSE c =
+    let close = c.close-a in
+    let test = c.if-a-ne-AFTER_CLOSE in
+    let put-numbers = c.put_numbers in
+    close_out c.args.state.now c.args.verbs.now c.args.coords.now c.args.answer.now _ close.ensures _ test.true put-numbers.ensures
+
+pub returns-else-a-ne-AFTER_CLOSE : goal.returns-else-a-ne-AFTER_CLOSE
+returns-else-a-ne-AFTER_CLOSE c =
+    let close = c.close-a in
+    close_none c.args.state.now c.args.verbs.now c.args.coords.now c.args.answer.now _ close.ensures c.if-a-ne-AFTER_CLOSE.false

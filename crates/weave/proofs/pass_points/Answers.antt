@@ -1,0 +1,60 @@
+-- `weave::pass_points` meets its contract. The plan: of the joints that the points bring, the rest is to come (`Midway`), and the way to the end is the same; one turn is `Turns`, and behind the last point nothing is to come. Assumes nothing.
+use borrow.Author.Rules.{rules}
+use Prim.Native.Nat.{◌-◌, ◌≤◌}
+use mathlib.Core.Path.{◌≡◌, refl, sym, ◌∙◌}
+use mathlib.Core.List.{[]}
+use native.Mathlib.Omega.{arith}
+use lib.ListN.{length, drop, drop_of_length-le}
+use Rattle.kept.specs.Points.{endpoints_of}
+use Rattle.kept.proofs.Indexed.{points_length}
+use Rattle.bends.proofs.Pending.{midway_start, midway_end}
+use Rattle.along.specs.Points.{walked}
+use Rattle.weave.proofs.Walking.{passed_none}
+use Rattle.weave.proofs.Turns.{visit_has, visit_turn}
+use Rattle.weave.proofs.pass_points.Goals as goal
+
+pub loop-i-init : goal.loop-i-init
+loop-i-init c = (midway_start, refl, refl, refl, refl)
+
+pub endpoint_at-c-requires : goal.endpoint_at-c-requires
+endpoint_at-c-requires c = (omega (arith, c.loop-i-test.true), c.requires.p_bound)
+
+pub pass_point-w-requires : goal.pass_point-w-requires
+pass_point-w-requires c =
+    let l = c.loop-i in
+    let a = c.args in
+    rw c.endpoint_at-c.ensures
+    (visit_has a.s.sure a.pass a.r a.p.now a.s.first.0 l.i (omega (arith, c.loop-i-test.true)) l.w l.invariant.0 c.requires.weave_fits)
+
+pub overflow_add-i : goal.overflow_add-i
+overflow_add-i c = omega (arith, c.loop-i-test.true, c.requires.p_bound)
+
+pub loop-i-smaller : goal.loop-i-smaller
+loop-i-smaller c = omega (arith, c.loop-i-test.true)
+
+pub loop-i-preserved : goal.loop-i-preserved
+loop-i-preserved c =
+    let l = c.loop-i in
+    let a = c.args in
+    let f = rw c.endpoint_at-c.ensures at c.pass_point-w.ensures in
+    let turn = visit_turn a.s.sure a.pass a.r a.p.now a.s.first.0 l.i (omega (arith, c.loop-i-test.true)) l.w l.invariant.0 f in
+    (turn.0, l.invariant.1 ∙ turn.1, search (rules, l.invariant.2), search (rules, l.invariant.3), search (rules, l.invariant.4))
+
+pub shape_of-v : goal.shape_of-v
+shape_of-v c = c.loop-i.invariant.2
+
+pub shape_of-src : goal.shape_of-src
+shape_of-src c = c.loop-i.invariant.3
+
+pub shape_of-t : goal.shape_of-t
+shape_of-t c = c.loop-i.invariant.4
+
+pub returns : goal.returns
+unfolding walked
+returns c =
+    let l = c.loop-i in
+    let a = c.args in
+    let ps = endpoints_of a.s.first.0 a.p.now in
+    let done : length ps ≤ l.i = omega (arith, c.loop-i-test.false, points_length a.p.now a.s.first.0) in
+    let none : drop l.i ps ≡ [] = drop_of_length-le ps done in
+    record { leg = sym (l.invariant.1 ∙ rw none); puts = midway_end (rw (none, passed_none a.pass.stroke a.s.sure l.w.leg) at l.invariant.0) }

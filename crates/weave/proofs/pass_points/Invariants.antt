@@ -1,0 +1,20 @@
+-- `weave::pass_points` meets its contract. The plan: of the joints that the points bring, the rest is to come (`Midway`), and the way to the end is the same; one turn is `Turns`, and behind the last point nothing is to come. Assumes nothing.
+use Prim.Native.Nat.{◌-◌}
+use mathlib.Core.Path.{◌≡◌}
+use lib.ListN.{length, drop}
+use Rattle.pieces.specs.Piece.{lent}
+use Rattle.kept.specs.Points.{endpoints_of}
+use Rattle.bends.proofs.Pending.{Midway}
+use Rattle.along.specs.Points.{walked}
+use Rattle.weave.specs.Points.{passed}
+use Rattle.weave.proofs.pass_points.Given as goal
+
+abbrev pub invariant-loop-i : goal.invariant-loop-i
+invariant-loop-i l =
+    let ps = endpoints_of l.s.first.0 l.p in
+    Midway l.pass.write l.pass.stroke l.r l.initial.w.weave (passed l.s.sure l.pass.stroke l.initial.w.leg (drop l.initial.i ps)) (lent l.initial.v l.initial.src l.initial.t) (passed l.s.sure l.pass.stroke l.w.leg (drop l.i ps)) l.w.weave (lent l.v l.src l.t)
+    × (walked l.s.sure l.pass.stroke l.initial.w.leg (drop l.initial.i ps) ≡ walked l.s.sure l.pass.stroke l.w.leg (drop l.i ps))
+    × (length l.v ≡ length l.initial.v) × (length l.src ≡ length l.initial.src) × (length l.t ≡ length l.initial.t)
+
+abbrev pub decreases-loop-i : goal.decreases-loop-i
+decreases-loop-i l = l.end - l.i
