@@ -10,7 +10,9 @@ pub fn text_at(out: &mut [u8], at: usize, text: &[u8]) -> usize
     requires { at + length text.now ≤ length out.old }
     ensures { Puts text.now at out.old result out.new }
 {
-    at + bytes::copy(text, &mut out[at..])
+    let end = at + text.len();
+    out[at..end].copy_from_slice(text);
+    end
 }
 
 pub fn byte_at(out: &mut [u8], at: usize, b: u8) -> usize

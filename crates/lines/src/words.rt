@@ -3,7 +3,7 @@ ghost use Rattle.std.specs.Prelude.{◌≡◌, ◌+◌, length, drop};
 ghost use Rattle.lines.specs.Words.{up_to_space, no_word, is_end, Found};
 
 // Where the reading of a line has come to.
-#[derive(Drop)]
+#[derive(Clone, Copy)]
 pub enum Place {
     // The next word starts here.
     At(usize),

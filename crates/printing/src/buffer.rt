@@ -9,7 +9,7 @@ pub const SIZE: usize = 65536;
 pub type Buffer = [u8; SIZE];
 
 // How many bytes wait, and whether more may be printed: not after a write that failed.
-#[derive(Drop)]
+#[derive(Clone, Copy)]
 pub struct Printed {
     pub waiting: usize,
     pub open: bool,

@@ -11,7 +11,7 @@ pub type Line = [u8; ROOM];
 
 // How many bytes of the line that is being read are held, or one more than its room where it is
 // longer than that; and what was printed.
-#[derive(Drop)]
+#[derive(Clone, Copy)]
 struct Reading {
     held: usize,
     printed: Printed,

@@ -1,0 +1,36 @@
+-- `case_answers::lent::fill_numbers` is safe and ends. The measure is the number of places that are left. Assumes nothing.
+use Rattle.std.proofs.Common.{◌-◌, refl, arith, length-set}
+use Rattle.case_answers.proofs.lent.fill_numbers.Goals as goal
+
+pub loop-i-init : goal.loop-i-init
+loop-i-init c = refl
+
+pub overflow_mul-list : goal.overflow_mul-list
+overflow_mul-list c = omega arith
+
+pub overflow_add-list : goal.overflow_add-list
+overflow_add-list c = omega arith
+
+pub overflow_cast-list : goal.overflow_cast-list
+overflow_cast-list c = omega arith
+
+pub offset_bounds-list-i : goal.offset_bounds-list-i
+offset_bounds-list-i c = omega arith
+
+pub bounds-list-i : goal.bounds-list-i
+bounds-list-i c = omega arith
+
+pub overflow_add-i : goal.overflow_add-i
+overflow_add-i c = omega arith
+
+pub loop-i-smaller : goal.loop-i-smaller
+loop-i-smaller c = simp length-set (omega arith)
+
+pub loop-i-preserved : goal.loop-i-preserved
+loop-i-preserved c = simp length-set (omega arith)
+
+pub shape_of-list : goal.shape_of-list
+shape_of-list c = omega arith
+
+pub returns : goal.returns
+returns c = tt

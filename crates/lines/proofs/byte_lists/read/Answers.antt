@@ -1,0 +1,24 @@
+-- `lines::byte_lists::read` meets its contract: the bytes that are parsed are those of the word. Assumes nothing.
+use mathlib.Core.Path.{sym, ◌∙◌}
+use native.Mathlib.Omega.{arith}
+use lib.ListN.{length}
+use Rattle.lines.specs.Bytes.{bytes_at}
+use Rattle.lines.specs.Words.{word_at}
+use Rattle.lines.proofs.Pairs.{count_le}
+use Rattle.lines.proofs.byte_lists.read.Goals as goal
+
+pub returns-in-Count : goal.returns-in-Count
+unfolding bytes_at
+returns-in-Count c =
+    let f = c.next_word-w.ensures in
+    let e = c.parse.ensures in
+    let w = word_at c.args.line.now c.args.place in
+    let n = c.count-1.given in
+    record { value = rw (← f.word, ← f.after, ← e.0, n.1); count_in_bounds = count_le (length c.args.list.now) w n.0.0 (rw (← f.word) (sym e.0 ∙ n.1)); list_after = rw (← f.word) e.1 }
+
+pub returns-in-Bad : goal.returns-in-Bad
+unfolding bytes_at
+returns-in-Bad c =
+    let f = c.next_word-w.ensures in
+    let e = c.parse.ensures in
+    record { value = rw (← f.word, ← e.0, c.in-Bad.is); count_in_bounds = omega arith; list_after = rw (← f.word) e.1 }
