@@ -1,4 +1,6 @@
 // A pass along a run's points: each joint is written, or only counted, as soon as the leg behind it is known, so no point is stored.
+#![tactic(auto)]
+
 pub mod strips;
 
 ghost use Rattle.std.specs.Prelude.{[], ◌∷◌, ◌≡◌, ◌+◌, ◌<◌, length, drop};

@@ -1,4 +1,6 @@
 // An arc about a centre (W-209): its middle, then the same of both halves.
+#![tactic(auto)]
+
 ghost use Rattle.std.specs.Prelude.{true, ◌≡◌, ◌≤◌, length};
 ghost use Rattle.lists.specs.Over.{over};
 ghost use Rattle.pieces.specs.Piece.{floats_of, sources_of, next_vertex, lent, Fits, Passes};

@@ -1,4 +1,6 @@
 // One joint of a round run woven into it (W-209): the strip's triangles past the joint, with the arcs' between them.
+#![tactic(auto)]
+
 ghost use Rattle.std.specs.Prelude.{true, [], ◌∷◌, ◌≡◌, ◌+◌, ◌<◌, ◌≤◌};
 ghost use Rattle.endpoint.specs.Endpoint.{id_limit};
 ghost use Rattle.pieces.specs.Piece.{lent};

@@ -1,4 +1,6 @@
 // The answers to `check` and `attached` lines: `check COUNT LIST`, answered `check NUMBER PLACE`, and so the other.
+#![tactic(auto)]
+
 use case_answers::number_lists::read_number_list;
 use inspect::{check, check_attached};
 use lines::numbers::read_up_to;

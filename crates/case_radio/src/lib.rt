@@ -1,5 +1,7 @@
 // The answer to `radio VERBLEN COORDLEN N FRAGMENT..`, where a fragment is a byte list, or `!` for a closing call made there:
 // `radio NUMBER PLACE VERBS COORDS VERBLIST COORDLIST ANSWERS`, of the closing call that ends the line, then the numbers of the others.
+#![tactic(auto)]
+
 mod call;
 mod calls;
 

@@ -1,4 +1,6 @@
 // The answer to `read VERBLEN COORDLEN TEXT`: `read NUMBER PLACE VERBS COORDS VERBLIST COORDLIST`.
+#![tactic(auto)]
+
 mod call;
 
 use crate::call::{COORD_ROOM, VERB_ROOM, answer_read};

@@ -1,4 +1,6 @@
 // The answers to `stlwrite` and `stlread` lines.
+#![tactic(auto)]
+
 mod read_call;
 pub mod reading;
 mod write_call;

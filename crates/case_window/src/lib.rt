@@ -1,4 +1,6 @@
 // The answer to `window OPS`, a list of calls of the window: `window ANSWERS`, a word to each call.
+#![tactic(auto)]
+
 mod calls;
 mod op;
 

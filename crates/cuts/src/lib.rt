@@ -1,6 +1,8 @@
 // W-213: how many cuts fall on the edges of a path's runs, drawn or not, for refusal 26. Counting stops at one more than is accepted.
 //
 // ds holds the lengths of the pattern; points whose squared distance is below the limit are near; b is the first cut of every run.
+#![tactic(auto)]
+
 mod edge;
 mod run_cuts;
 

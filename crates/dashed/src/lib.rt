@@ -1,6 +1,8 @@
 // W-213: the dashes of a run, drawn one behind the other as open runs. No point, mark or dash is stored.
 //
 // p has the run's coordinates, of which none is dropped on closing; ds holds the lengths of the pattern.
+#![tactic(auto)]
+
 mod arcs;
 mod strips;
 

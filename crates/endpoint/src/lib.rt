@@ -1,4 +1,6 @@
 // Endpoints as the joins see them: lyon's `EndpointData`, with what is optional there in cases.
+#![tactic(auto)]
+
 ghost use Rattle.std.specs.Prelude.{◌≡◌, ◌+◌, ◌<◌};
 ghost use Rattle.endpoint.specs.Endpoint.{id_limit, endpoint_after, vertex_after, blank_of, sign_of, side_bit, source_of, single_of, pair_of, side_count_of};
 

@@ -1,4 +1,6 @@
 // What is drawn about one joint of a round run (W-209): the arcs of its sides, and the fan of a cap.
+#![tactic(auto)]
+
 ghost use Rattle.std.specs.Prelude.{true, ◌≡◌, ◌+◌, ◌<◌, ◌≤◌};
 ghost use Rattle.endpoint.specs.Endpoint.{id_limit};
 ghost use Rattle.endpoint.specs.declared.Side.TheVariants.{Positive, Negative};

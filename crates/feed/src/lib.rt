@@ -2,6 +2,8 @@
 //
 // p has the run's coordinates, of which none is dropped on closing, and first the number of its first endpoint; points whose squared distance is below
 // near are near; ds holds the lengths of the pattern.
+#![tactic(auto)]
+
 pub mod trail;
 
 ghost use Rattle.std.specs.Prelude.{true, ◌≡◌, ◌+◌, ◌*◌, ◌≤◌, ◌<◌, length};

@@ -1,4 +1,6 @@
 // A checker of index lists from elsewhere, W-211: what is wrong with one first, and whether its triangles hang together.
+#![tactic(auto)]
+
 mod attached;
 mod marks;
 mod names;

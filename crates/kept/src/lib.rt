@@ -2,6 +2,8 @@
 //
 // p holds the run's coordinates, two to a point; first is the number of its first endpoint; points whose squared distance is below the
 // limit are near.
+#![tactic(auto)]
+
 pub mod near;
 
 ghost use Rattle.std.specs.Prelude.{◌≡◌, ◌+◌, ◌*◌, ◌≤◌, ◌<◌, length};

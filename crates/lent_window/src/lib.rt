@@ -1,5 +1,7 @@
 // The window's lent calls, on a window that is handed over: it is put in a slot, the slot is lent, and
 // what the call left there is handed back. So whoever calls these makes no reference to a struct.
+#![tactic(auto)]
+
 ghost use Rattle.std.specs.Prelude.{◌≡◌, [], ◌∷◌, ◌++◌};
 ghost use Rattle.window.specs.Window.{items, last_three, ReplacesLast};
 

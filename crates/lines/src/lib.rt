@@ -1,4 +1,6 @@
 // Lines of text, as cases and answers are written: words, numbers, floats, byte lists, and how these are printed.
+#![tactic(auto)]
+
 pub mod at;
 pub mod byte_lists;
 mod digits;

@@ -1,4 +1,6 @@
 // Measuring: how many vertices and triangles the mesh of a path has, before a list is lent.
+#![tactic(auto)]
+
 pub mod answer;
 pub mod part;
 

@@ -1,4 +1,6 @@
 // The mesh call: from a path and its options to a mesh, or to one refusal of document 01's table.
+#![tactic(auto)]
+
 pub mod answer;
 
 ghost use Rattle.std.specs.Prelude.{◌≡◌};

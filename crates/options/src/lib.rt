@@ -1,4 +1,6 @@
 // The options of a stroke, as a caller hands them over and as the rules use them: refusal 1 of document 01.
+#![tactic(auto)]
+
 ghost use Rattle.std.specs.Prelude.{◌≡◌};
 ghost use Rattle.options.specs.Options.{within, in_range, line_join_of, line_cap_of, clip_of, prepared_of, no_stroke, stroke_of, stroke_answer_of, rounds_joins, rounds_caps, is_round, level_of};
 

@@ -1,4 +1,6 @@
 // Document 01's program, but for its input and output: what it prints of a path text, put into a list.
+#![tactic(auto)]
+
 mod line;
 mod mesh_lines;
 

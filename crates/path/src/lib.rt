@@ -1,4 +1,6 @@
 // The checks of a path, refusals 2 to 4 of document 01: what passes them is what the rules are stated for.
+#![tactic(auto)]
+
 pub mod coordinates;
 pub mod verbs;
 

@@ -1,4 +1,6 @@
 // What a pass writes, or only counts, and where it stands: pieces of a mesh, places in the lists that are lent, and their laws.
+#![tactic(auto)]
+
 ghost use Rattle.std.specs.Prelude.{◌≡◌, ◌<◌};
 ghost use Rattle.endpoint.specs.Endpoint.{id_limit, vertex_after};
 ghost use Rattle.pieces.specs.Piece.{next_vertex};

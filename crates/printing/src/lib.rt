@@ -1,4 +1,6 @@
 // Printing to standard output: words with a space between them, lists of words, and what answers to cases share.
+#![tactic(auto)]
+
 pub mod buffer;
 pub mod replies;
 pub mod rows;

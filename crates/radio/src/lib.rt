@@ -1,4 +1,6 @@
 // Path text over the radio: fragments in turn, and a closing call. However the text is divided, the outcome is that of the whole text.
+#![tactic(auto)]
+
 pub mod answer;
 mod hearing;
 

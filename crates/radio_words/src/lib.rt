@@ -1,4 +1,6 @@
 // The radio's calls over words that C and Rust can hold between two of them, one to a field of the state. Words that are no state's count as closed.
+#![tactic(auto)]
+
 mod codec;
 mod fields;
 

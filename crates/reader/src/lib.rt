@@ -1,4 +1,6 @@
 // The reader of path text: from text to a path, or to one refusal of document 01's table.
+#![tactic(auto)]
+
 pub mod answer;
 pub mod counts;
 pub mod pass;

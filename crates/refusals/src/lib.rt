@@ -1,4 +1,6 @@
 // What every answer's number means, document 01's table and what document 02 adds: the numbers by name, and the refusals that several calls give.
+#![tactic(auto)]
+
 ghost use Rattle.std.specs.Prelude.{◌≡◌};
 ghost use Rattle.refusals.specs.Numbers.{verdict_of};
 

@@ -1,4 +1,6 @@
 // Answers cases, one to a line of standard input, each with a line of standard output.
+#![tactic(auto)]
+
 mod cases;
 mod input;
 

@@ -1,4 +1,6 @@
 // The root: the f32 nearest to the square root of an f32, decided over whole numbers.
+#![tactic(auto)]
+
 mod pattern;
 mod whole;
 

@@ -1,4 +1,6 @@
 // The round empty cap (W-209): the square's four directions, normalized, and an arc from each to the next.
+#![tactic(auto)]
+
 ghost use Rattle.std.specs.Prelude.{true, ◌≡◌, ◌+◌, ◌≤◌, ◌<◌, length};
 ghost use Rattle.endpoint.specs.Endpoint.{id_limit};
 ghost use Rattle.lists.specs.Over.{over};

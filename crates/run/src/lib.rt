@@ -1,4 +1,6 @@
 // A run of a path, drawn at the start of the lists that are lent (rule 2): a strip along its joints, an empty cap, or nothing.
+#![tactic(auto)]
+
 mod alone;
 
 ghost use Rattle.std.specs.Prelude.{true, false, ◌≡◌, ◌+◌, ◌≤◌, ◌<◌, length};

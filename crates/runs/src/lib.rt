@@ -1,4 +1,6 @@
 // A pass over the runs of a path: each end verb ends a run, which is counted and, where the pass writes, drawn. ds holds the lengths of its dashes.
+#![tactic(auto)]
+
 mod cursor;
 mod cut;
 pub mod part;

@@ -1,5 +1,7 @@
 // The library as C and Rust link it: calls over numbers and slices, ten here, two that measure in `measuring` and the radio's three in `fragments`, each answering document 01's number. What a number stands for is written over
 // the start of a list that the caller lends, as far as that list goes, so no call has a `requires`.
+#![tactic(auto)]
+
 pub mod fragments;
 mod measuring;
 mod put;

@@ -1,4 +1,6 @@
 // Reading binary STL: a file's corners into a lent list, or one refusal.
+#![tactic(auto)]
+
 pub mod answer;
 mod facets;
 mod words;

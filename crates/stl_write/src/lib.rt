@@ -1,4 +1,6 @@
 // Writing binary STL: a mesh into a lent byte list, or one refusal.
+#![tactic(auto)]
+
 pub mod answer;
 mod corners;
 mod put;

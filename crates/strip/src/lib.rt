@@ -1,5 +1,7 @@
 // A run's strip: its joints, one by one, become vertices, sections and triangles (rules 8 and 9 of
 // document 01).
+#![tactic(auto)]
+
 ghost use Rattle.std.specs.Prelude.{true, cond, ◌≡◌, [], ◌∷◌, ◌+◌, ◌-◌, ◌*◌, ◌≤◌, ◌<◌, length};
 ghost use Rattle.endpoint.specs.Endpoint.{id_limit};
 ghost use Rattle.lists.specs.Over.{over};

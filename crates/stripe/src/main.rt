@@ -1,4 +1,6 @@
 // Document 01's program: path text on standard input; its mesh, or one refusal, on standard output.
+#![tactic(auto)]
+
 mod input;
 
 use crate::input::read_text;

@@ -1,1 +1,2 @@
 // Triangles and what demand 3 says of them. No code.
+#![tactic(auto)]

@@ -1,1 +1,2 @@
 // Unit vectors, and how long a normalized vector is: no code, but laws.
+#![tactic(auto)]

@@ -1,4 +1,6 @@
 // The weaving pass along a run's points (W-209): once its strip is there, each joint is woven into it as soon as the leg behind it is known.
+#![tactic(auto)]
+
 pub mod strips;
 
 ghost use Rattle.std.specs.Prelude.{◌+◌, ◌<◌, length, drop};

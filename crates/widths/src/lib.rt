@@ -1,4 +1,6 @@
 // Stored u16 lists made u32 lists, as triangle lists are, and back: widening and narrowing.
+#![tactic(auto)]
+
 pub mod answer;
 
 ghost use Rattle.std.specs.Prelude.{◌≡◌, ◌≤◌, length};

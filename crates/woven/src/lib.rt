@@ -1,5 +1,7 @@
 // What is woven into a round run of two kept points or more (W-209), once its strip is at the start of the lists that are lent: the arcs' vertices behind the strip's, and all
 // triangles over the strip's.
+#![tactic(auto)]
+
 ghost use Rattle.std.specs.Prelude.{cond, true, ◌≡◌, ◌*◌};
 ghost use Rattle.kept.specs.Looks.{run_from};
 ghost use Rattle.lists.specs.Over.{put_at};
