@@ -10,7 +10,7 @@ use lib.Dec.{ltb}
 use lib.Pow.{pow-add, pow_pos, pow_mono, pow-lt}
 use lib.Ieee.{inf, binary32, size, odd, units, round, neg, of_bits}
 use lib.Ieee.Digits.{size-lt, size-le}
-use lib.Ieee.Fits.{nearest-le, round_fits, round_is}
+use lib.Ieee.Fits.{nearest-le, round-fits, round_is}
 use lib.Ieee.Bits.{of_bits-fits}
 use lib.Ieee.Exact.{HasValue}
 use lib.Ieee.Nearest.{closest, closest_same, nearest-ge}
@@ -84,7 +84,7 @@ module _ (n c t d g : ℕ) (C : 0 < c) (D : 0 < d) (G : g ≤ 188) (same : n * 2
       let h : HasValue x false v (2 ^ 149) = carries g (closest t d) G least most in
       let k : HasValue y false v (2 ^ 149) =
       subst (λ (w : ℕ). HasValue y false w (2 ^ 149)) on_grid (round_val binary32 n c (subst (λ (w : ℕ). w < overflow binary32) (sym on_grid) under)) in
-      same_units x y (of_bits-fits binary32 b) (round_fits binary32 false n c) (value_rootable x v (2 ^ 149) h) (value_rootable y v (2 ^ 149) k) (units_of x v h ∙ sym (units_of y v k))
+      same_units x y (of_bits-fits binary32 b) (round-fits binary32 false n c) (value_rootable x v (2 ^ 149) h) (value_rootable y v (2 ^ 149) k) (units_of x v h ∙ sym (units_of y v k))
 
 -- ---- the sign
 neg_odd : (d q k l : ℕ) → neg (odd d false q k l) ≡ odd d true q k l

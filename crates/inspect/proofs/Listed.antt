@@ -56,6 +56,7 @@ below lo hi (t ∷ ts) own (suc (suc (suc i))) h = below lo hi ts own.1 i (omega
 
 has : (x : ℕ) (ts : List Tri) → Names x ts → Has x (list_of ts)
 unfolding flat in_tri
+has x [] n = elim n [ ]
 has x (t ∷ ts) (Names.here e) = go (eqb t.a x) refl (eqb t.b x) refl (eqb t.c x) refl e where
   go : (p : Bool) → eqb t.a x ≡ p → (q : Bool) → eqb t.b x ≡ q → (r : Bool) → eqb t.c x ≡ r → ◌≡◌ {A = ℕ} (cond p 1 (cond q 1 (cond r 1 0))) 1 → Has x (list_of (t ∷ ts))
   go true f q g r h e = record { at = 0; low = omega arith; is = eqb-true t.a x f }

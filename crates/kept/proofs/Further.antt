@@ -1,7 +1,7 @@
 -- Keeping and trimming, one point more at the end. The plan: the next point near or far; then the last kept point and what is kept (`last_more`), and what the closing
 -- end leaves, once a point stands behind. Assumes nothing.
 use mathlib.Core.Path.{◌≡◌, ap}
-use mathlib.Core.Bool.{Bool, true, false, cond, and_false}
+use mathlib.Core.Bool.{Bool, true, false, cond, and-false}
 use mathlib.Core.List.{List, [], ◌∷◌, ◌++◌}
 use Rattle.endpoint.specs.declared.Endpoint.{Endpoint}
 use Rattle.kept.specs.Kept.{near, kept_behind, all_near, trimmed}
@@ -44,7 +44,7 @@ module _ (limit : Float) where
   all_far : (o : Endpoint) (xs : List Endpoint) (c : Endpoint) → near limit o c ≡ false → all_near limit o (xs ++ c ∷ []) ≡ false
   unfolding all_near
   all_far o [] c h = rw h
-  all_far o (x ∷ xs) c h = rw (all_far o xs c h) (and_false (near limit o x))
+  all_far o (x ∷ xs) c h = rw (all_far o xs c h) (and-false (near limit o x))
 
   pub trim_near : (o : Endpoint) (xs : List Endpoint) (c : Endpoint) → near limit o c ≡ true → trimmed limit o (xs ++ c ∷ []) ≡ trimmed limit o xs
   unfolding trimmed all_near
@@ -54,4 +54,4 @@ module _ (limit : Float) where
   pub trim_far : (o : Endpoint) (xs : List Endpoint) (c : Endpoint) → near limit o c ≡ false → trimmed limit o (xs ++ c ∷ []) ≡ xs ++ c ∷ []
   unfolding trimmed all_near
   trim_far o [] c h = rw h
-  trim_far o (x ∷ xs) c h = rw (trim_far o xs c h, all_far o xs c h, and_false (near limit o x))
+  trim_far o (x ∷ xs) c h = rw (trim_far o xs c h, all_far o xs c h, and-false (near limit o x))

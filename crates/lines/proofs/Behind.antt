@@ -3,7 +3,7 @@ use Prim.Native.Nat.{ℕ, zero, suc, ◌+◌, ◌-◌, ◌≤◌, ◌<◌}
 use mathlib.Core.Path.{◌≡◌, refl, sym, ap, ◌∙◌}
 use mathlib.Core.List.{List, [], ◌∷◌, ◌++◌}
 use native.Mathlib.Omega.{arith}
-use lib.ListN.{length, take, drop, set, length-append, length-drop}
+use lib.ListN.{length, drop, set, length-append, length-drop}
 use lib.Seq.{take-nil, drop-nil, drop-cons, set_split}
 use borrow.Rule.Slice.PartMut.{mid_of, put_mid}
 use Rattle.lines.specs.Placed.{over_from, Puts}
@@ -42,19 +42,18 @@ pub puts_part : (ws xs ys : List ℕ) (k n : ℕ) → k ≤ length xs → n ≡ 
     → Puts ws k xs (k + n) (put_mid k (length xs - k) xs ys)
 puts_part ws xs ys k n h e q = record { behind = rw e; list = rw (put_is xs ys k h, q, part_is xs k h) }
 
--- what `bytes::copy` leaves there
-copied : (ws xs : List ℕ) → length ws ≤ length xs → take (length ws) ws ++ drop (length ws) xs ≡ over ws xs
+-- a copy into a part that is as long
+copied : (ws xs : List ℕ) → length ws ≤ length xs → ws ++ drop (length ws) xs ≡ over ws xs
 unfolding over
 copied [] xs h = refl
 copied (w ∷ ws) [] h = absurd (omega arith)
 copied (w ∷ ws) (x ∷ xs) h = ap (λ (l : List ℕ). w ∷ l) (copied ws xs (omega arith))
 
-pub puts_copy : (ws xs ys : List ℕ) (k n : ℕ) → k + length ws ≤ length xs → n ≡ length ws
-    → ys ≡ take (length ws) ws ++ drop (length ws) (mid_of k (length xs - k) xs) → Puts ws k xs (k + n) (put_mid k (length xs - k) xs ys)
+pub puts_copy : (ws xs ys : List ℕ) (k n : ℕ) → k + length ws ≤ length xs → n ≡ k + length ws → ys ≡ ws → Puts ws k xs n (put_mid k (n - k) xs ys)
 puts_copy ws xs ys k n h e q =
-    let r : k ≤ length xs = omega arith in
-    let l : length ws ≤ length (mid_of k (length xs - k) xs) = rw (part_is xs k r) (simp length-drop (omega arith)) in
-    puts_part ws xs ys k n r e (q ∙ copied ws (mid_of k (length xs - k) xs) l)
+    let m : n - k ≡ length ws = omega arith in
+    let l : length ws ≤ length (drop k xs) = simp length-drop (omega arith) in
+    record { behind = e; list = rw (m, q, copied ws (drop k xs) l) }
 
 -- one byte
 pub puts_byte : (xs : List ℕ) (k b : ℕ) → k < length xs → Puts (b ∷ []) k xs (k + 1) (set xs k b)

@@ -1,7 +1,7 @@
 -- A pass over bytes, part by part: what a byte changes, and where the pass ends. Assumes nothing.
 use Prim.Native.Nat.{ℕ, ◌+◌, ◌≤◌, ◌<◌}
 use mathlib.Core.Path.{◌≡◌, refl, sym, ap, ◌∙◌}
-use mathlib.Core.Bool.{Bool, true, false, cond, not}
+use mathlib.Core.Bool.{Bool, true, false, cond}
 use mathlib.Core.List.{List, [], ◌∷◌, ◌++◌}
 use native.Mathlib.Numerals.{add-one}
 use native.Mathlib.Omega.{arith}
@@ -9,7 +9,6 @@ use lib.Ieee.{Float}
 use lib.ListN.{length, drop, get_or, drop_of_length-le}
 use lib.Seq.{drop-cons}
 use Rattle.form.specs.Machine.{is_lost}
-use Rattle.form.proofs.Taken.{never}
 use Rattle.lists.proofs.Laws.{length_put}
 use Rattle.values.specs.declared.state.Called.{Called}
 use Rattle.values.specs.declared.state.Took.{Took}
@@ -104,15 +103,6 @@ pub through_by : (v : List ℕ) (c : List Float) (s : List ℕ) (p : Passage) (u
     → q ≡ through_of v c s
 unfolding through_of
 through_by v c s p u q ep eu eq = eq ∙ ap (λ x. pass_of x (end_byte ∷ [])) (eu ∙ ap (λ (x : Passage). pass_of (record { passage = x; verbs = v; coords = c }) s) ep)
-
--- the loop's test
-pub still_on : (b o : Bool) → b ≡ o → not b ≡ true → o ≡ false
-still_on true o e h = absurd (never h)
-still_on false o e h = sym e
-
-pub now_over : (b o : Bool) → b ≡ o → not b ≡ false → o ≡ true
-now_over true o e h = sym e
-now_over false o e h = absurd (never (sym h))
 
 -- How far the loop has come: what was to come is still to come.
 pub record Passes (text v0 : List ℕ) (c0 : List Float) (p0 : Passage) (v : List ℕ) (c : List Float) (p : Passage) (i : ℕ) : Type 0 where

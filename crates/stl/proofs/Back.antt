@@ -17,7 +17,7 @@ use Rattle.plane.specs.declared.vector.Point.{Point}
 use Rattle.stl.specs.Answer.{with_count}
 use Rattle.stl.specs.Back.{Held, PlacesHeld, ReadsBack, written, Returns}
 use Rattle.stl.specs.Bytes.{zeros, le32, word_at}
-use Rattle.stl.specs.Corner.{finite, is_zero, finite_corner}
+use Rattle.stl.specs.Corner.{is_zero, finite_corner}
 use Rattle.stl.specs.Each.{each, first_bad}
 use Rattle.stl.specs.File.{corner_bytes, facet_bytes, file_bytes, size_of, count_in, corner_at, facet_at, corners_of}
 use Rattle.stl.specs.Read.{fine_corner, fine_facet}

@@ -67,4 +67,5 @@ joined_plainly x xs t ys a =
   where
     go : (u : Tri) → Has u (x ∷ []) ⊎ Has u xs → Has u (x ∷ xs)
     go u (inl (first e)) = first e
+    go u (inl (later x)) = elim x [ ]
     go u (inr l) = later l

@@ -67,10 +67,12 @@ own_append lo hi [] ys f g = g
 own_append lo hi (x ∷ xs) ys f g = (f.0, own_append lo hi xs ys f.1 g)
 
 pub own_has : (lo hi : ℕ) (u : Tri) (ts : List Tri) → AllOwn lo hi ts → Has u ts → Own lo hi u
+own_has lo hi u [] o x = elim x [ ]
 own_has lo hi u (t ∷ ts) o (first e) = rw e at o.0
 own_has lo hi u (t ∷ ts) o (later h) = own_has lo hi u ts o.1 h
 
 pub names_left : (x : ℕ) (xs ys : List Tri) → Names x xs → Names x (xs ++ ys)
+names_left x [] ys n = elim n [ ]
 names_left x (t ∷ xs) ys (here e) = here e
 names_left x (t ∷ xs) ys (there n) = there (names_left x xs ys n)
 

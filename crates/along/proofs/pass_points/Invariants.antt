@@ -1,4 +1,4 @@
--- `along::pass_points` meets its contract. The plan: of the joints that the points bring, the rest is to come (`Midway`), and the way to the end is the same; one turn is `Turns`, and behind the last point nothing is to come. Assumes nothing.
+-- The loop of `along::pass_points`: what each turn keeps, and what falls. Assumes nothing.
 use Prim.Native.Nat.{◌-◌}
 use mathlib.Core.Path.{◌≡◌}
 use lib.ListN.{length, drop}

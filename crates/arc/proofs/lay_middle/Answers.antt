@@ -55,4 +55,4 @@ overflow_add-result-2 c = omega (arith, c.requires.fits.faces)
 pub returns : goal.returns
 returns c =
     let put = c.put_middle in
-    middle_passes c.args.k c.args.hub c.args.a c.args.b c.args.mid c.requires.vertex_value _ _ _ _ _ _ c.requires.fits put.ensures.0 put.ensures.1.0 put.ensures.1.1
+    middle_passes c.args.k c.args.hub c.args.a c.args.b c.args.mid c.requires.vertex_value _ _ _ _ _ _ c.requires.fits put.ensures.v_after put.ensures.src_after put.ensures.t_after

@@ -11,4 +11,6 @@ use Rattle.arc.proofs.put_middle.Goals as goal
 
 pub returns : goal.returns
 unfolding arc_vertex_of
-returns c = let both = rw (c.put_vertex.ensures.v_after, c.put_vertex.ensures.src_after, c.put_triangle.ensures, c.plus-place.ensures, c.times.ensures) (refl, (refl, refl)) in record { v_after = both.0; src_after = both.1.0; t_after = both.1.1 }
+returns c =
+    let put = c.put_vertex.ensures in
+    record { v_after = rw (put.v_after, c.plus-place.ensures, c.times.ensures) refl; src_after = rw put.src_after refl; t_after = rw c.put_triangle.ensures refl }

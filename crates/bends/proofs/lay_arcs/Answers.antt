@@ -5,7 +5,7 @@ use Rattle.bends.proofs.lay_arcs.Goals as goal
 
 pub lay_side-p-requires : goal.lay_side-p-requires
 unfolding arcs_weft
-lay_side-p-requires c = ((c.requires.positive_bound.0, c.requires.positive_bound.2), weft_front _ _ c.requires.weft_fits)
+lay_side-p-requires c = record { first_bound = (c.requires.positive_bound.0, c.requires.positive_bound.2); weft_fits = weft_front _ _ c.requires.weft_fits }
 
 pub lay_side-requires : goal.lay_side-requires
 unfolding arcs_weft

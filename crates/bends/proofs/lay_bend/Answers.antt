@@ -23,7 +23,7 @@ pub lay_due-due-requires : goal.lay_due-due-requires
 lay_due-due-requires c =
     let is = rw c.next_vertex-next.ensures at c.before-s.ensures in
     let ie = rw c.next_vertex-next.ensures at c.after-e.ensures in
-    (c.requires.from, due_fits c.args.o c.args.r c.args.w c.args.b is ie c.requires.fits c.lay_edge-edge.ensures)
+    record { id_lt_id_limit = c.requires.from; weft_fits = due_fits c.args.o c.args.r c.args.w c.args.b is ie c.requires.fits c.lay_edge-edge.ensures }
 
 pub lay_between-own-requires : goal.lay_between-own-requires
 lay_between-own-requires c =
@@ -36,7 +36,7 @@ lay_arcs-arcs-requires c =
     let is = rw c.next_vertex-next.ensures at c.before-s.ensures in
     let ie = rw c.next_vertex-next.ensures at c.after-e.ensures in
     let near = near_fit _ (next_of c.args.w.strip) c.args.b.joint is c.requires.numbers in
-    ((near.0, near.1, c.requires.joint), arcs_fits c.args.o c.args.r c.args.w c.args.b is ie c.requires.fits c.lay_edge-edge.ensures c.lay_due-due.ensures c.lay_between-own.ensures)
+    record { positive_bound = (near.0, near.1, c.requires.joint); weft_fits = arcs_fits c.args.o c.args.r c.args.w c.args.b is ie c.requires.fits c.lay_edge-edge.ensures c.lay_due-due.ensures c.lay_between-own.ensures }
 
 pub lay_end-requires : goal.lay_end-requires
 lay_end-requires c =

@@ -4,14 +4,11 @@ use mathlib.Core.Path.{◌≡◌}
 use native.Mathlib.Omega.{arith}
 use Rattle.dashes.specs.Pattern.{worn_of, first_cut}
 use Rattle.cuts.proofs.Passing.{first_index, going_none, going_inside, going_one, going_all}
-use Rattle.cuts.proofs.count_cuts.Goals.{After-first_cut-b, Start}
+use Rattle.cuts.proofs.count_cuts.Goals.{After-first_cut-b}
 use Rattle.cuts.proofs.count_cuts.Goals as goal
 
 -- the first cut
-abbrev begins : After-first_cut-b invariant-loop decreases-loop → Start invariant-loop decreases-loop
-begins c = c
-
-cut : (c : After-first_cut-b invariant-loop decreases-loop) → c.first_cut-b.result ≡ first_cut (begins c).args.ds.now (worn_of (begins c).args.ds.now (begins c).args.offset)
+cut : (c : After-first_cut-b) → c.first_cut-b.result ≡ first_cut c.args.ds.now (worn_of c.args.ds.now c.args.offset)
 cut c = rw c.worn.ensures at c.first_cut-b.ensures
 
 pub worn-requires : goal.worn-requires
@@ -25,8 +22,8 @@ loop-i-init c = going_none _ _ _ _ _
 
 pub count_verb-g-requires : goal.count_verb-g-requires
 count_verb-g-requires c =
-    let start = begins c in
-    (start.pre.0, rw (cut c) (first_index _ _), going_inside _ _ _ _ _ _ _ c.loop-i.invariant start.pre.1.0 start.pre.1.1)
+    let begins = (goal.at.count_verb-g-requires c).After-first_cut-b in
+    (c.requires.ds_nonzero, rw (cut begins) (first_index _ _), going_inside _ _ _ _ _ _ _ c.loop-i.invariant c.requires.coords_len.0 c.requires.coords_len.1)
 
 pub loop-i-smaller : goal.loop-i-smaller
 loop-i-smaller c = omega (arith, c.loop-i-test.true)
@@ -35,4 +32,4 @@ pub loop-i-preserved : goal.loop-i-preserved
 loop-i-preserved c = going_one _ _ _ _ _ _ _ c.loop-i.invariant _ c.loop-i-test.true c.count_verb-g.ensures
 
 pub returns : goal.returns
-returns c = rw (cut c) at (going_all _ _ _ _ _ _ _ c.loop-i.invariant c.loop-i-test.false)
+returns c = rw (cut (goal.at.returns c).After-first_cut-b) at (going_all _ _ _ _ _ _ _ c.loop-i.invariant c.loop-i-test.false)

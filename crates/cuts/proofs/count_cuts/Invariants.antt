@@ -1,4 +1,4 @@
--- `cuts::count_cuts` meets its contract. The plan: the loop's invariant is Passing's `Going`, from its start by one verb a turn to the end of the verbs. Assumes nothing.
+-- The loop of `cuts::count_cuts`: what each turn keeps, and what falls. Assumes nothing.
 use Prim.Native.Nat.{◌-◌}
 use lib.ListN.{length}
 use Rattle.cuts.proofs.Passing.{Going}

@@ -6,14 +6,14 @@ use Rattle.dashed.proofs.draw_dashes.Goals as goal
 
 pub start_dashes-trail-requires : goal.start_dashes-trail-requires
 start_dashes-trail-requires c =
-    (c.requires.within, (c.requires.ds_nonzero.0, c.requires.ds_nonzero.1))
+    record { within = c.requires.within; ds_nonzero = (c.requires.ds_nonzero.0, c.requires.ds_nonzero.1) }
 
 pub loop-trail-init : goal.loop-trail-init
 loop-trail-init c = (drawing_none _ _ _ _ _ _ _ _ _ c.start_dashes-trail.ensures.dashes c.start_dashes-trail.ensures.fits, refl, refl, refl)
 
 pub draw_next-d-requires : goal.draw_next-d-requires
 draw_next-d-requires c =
-    (c.loop-trail.invariant.0.fits, (c.requires.ds_nonzero.2, drawing_fits _ _ _ _ _ c.loop-trail.invariant.0 c.loop-trail-test.true c.requires.fits))
+    record { trail_fits = c.loop-trail.invariant.0.fits; detail_bound = c.requires.ds_nonzero.2; fits = drawing_fits _ _ _ _ _ c.loop-trail.invariant.0 c.loop-trail-test.true c.requires.fits }
 
 pub next_dash-trail-requires : goal.next_dash-trail-requires
 next_dash-trail-requires c =

@@ -1,4 +1,4 @@
--- `dashed::draw_dashes` meets its contract. The plan: `Drawing` says how far the dashes have come, one dash a turn. Assumes nothing.
+-- The loop of `dashed::draw_dashes`: what each turn keeps, and what falls. Assumes nothing.
 use mathlib.Core.Path.{◌≡◌}
 use lib.ListN.{length}
 use Rattle.pieces.specs.Piece.{lent}

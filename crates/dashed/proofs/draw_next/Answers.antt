@@ -53,7 +53,7 @@ slice_bounds-draw_dash-start-3 c = omega (arith, inside (goal.at.slice_bounds-dr
 
 pub draw_dash-d-requires : goal.draw_dash-d-requires
 draw_dash-d-requires c =
-    (c.requires.trail_fits, (c.requires.detail_bound, part_fits c.args.pass c.args.r _ _ _ c.args.trail c.args.k c.place_of-a.ensures c.place_of-b.ensures c.place_of-c.ensures c.next_vertex.ensures c.requires.fits))
+    record { trail_fits = c.requires.trail_fits; detail_bound = c.requires.detail_bound; fits = part_fits c.args.pass c.args.r _ _ _ c.args.trail c.args.k c.place_of-a.ensures c.place_of-b.ensures c.place_of-c.ensures c.next_vertex.ensures c.requires.fits }
 
 pub overflow_add-place : goal.overflow_add-place
 overflow_add-place c =

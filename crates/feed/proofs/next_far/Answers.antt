@@ -3,7 +3,6 @@
 use Prim.Native.Nat.{◌+◌, ◌-◌, ◌*◌, ◌≤◌}
 use mathlib.Core.Path.{◌≡◌, refl, sym, ◌∙◌}
 use native.Mathlib.Omega.{arith}
-use borrow.Author.Tests.{not-true, not-false}
 use lib.ListN.{length}
 use Rattle.kept.specs.Kept.{near}
 use Rattle.kept.specs.Points.{endpoint_at}
@@ -13,7 +12,7 @@ use Rattle.feed.proofs.next_far.Goals.{After-is_near}
 use Rattle.feed.proofs.next_far.Goals as goal
 
 -- the answer of `is_near`, told of the definitions
-told : (c : After-is_near invariant-loop decreases-loop) → let a = c.args in
+told : (c : After-is_near) → let a = c.args in
     near a.near a.a (endpoint_at a.p.now a.first.0 c.loop-j.j) ≡ c.is_near.result
 told c = rw c.endpoint_at-c.ensures at (sym c.is_near.ensures)
 
@@ -23,14 +22,14 @@ loop-j-init c = (omega (arith, c.requires), refl)
 pub returns-then-not-is_near : goal.returns-then-not-is_near
 returns-then-not-is_near c =
     let l = c.loop-j in
-    record { within = l.invariant.0; kept = l.invariant.1; far = λ h. told c ∙ not-true _ c.if-not-is_near.true }
+    record { within = l.invariant.0; kept = l.invariant.1; far = λ h. told (goal.at.returns-then-not-is_near c).After-is_near ∙ c.if-not-is_near.true }
 
 pub loop-j-preserved : goal.loop-j-preserved
 loop-j-preserved c =
     let l = c.loop-j in
     let a = c.args in
     let h : 2 * l.j + 2 ≤ length a.p.now = omega (arith, c.loop-j-test.true) in
-    (omega (arith, h), l.invariant.1 ∙ rw (points_at a.p.now a.first.0 l.j h) (keep_near _ _ _ _ (told c ∙ not-false _ c.if-not-is_near.false)))
+    (omega (arith, h), l.invariant.1 ∙ rw (points_at a.p.now a.first.0 l.j h) (keep_near _ _ _ _ (told (goal.at.loop-j-preserved c).After-is_near ∙ c.if-not-is_near.false)))
 
 pub returns : goal.returns
 returns c =

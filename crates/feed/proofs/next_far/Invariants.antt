@@ -1,4 +1,4 @@
--- `feed::next_far` meets its contract. The plan: as long as no point was far, what is kept behind a is what is kept of the points from j on; a point that is near
+-- The loop of `feed::next_far`: what each turn keeps, and what falls. Assumes nothing.
 use Prim.Native.Nat.{◌-◌, ◌/◌, ◌≤◌}
 use mathlib.Core.Path.{◌≡◌}
 use lib.ListN.{length, drop}

@@ -3,7 +3,6 @@
 use Prim.Native.Nat.{◌+◌, ◌-◌, ◌*◌, ◌≤◌}
 use mathlib.Core.Path.{◌≡◌, refl, sym, ◌∙◌}
 use native.Mathlib.Omega.{arith}
-use borrow.Author.Tests.{not-true, not-false}
 use lib.ListN.{length}
 use Rattle.kept.specs.Kept.{near}
 use Rattle.kept.specs.Points.{endpoint_at}
@@ -13,7 +12,7 @@ use Rattle.kept.proofs.first_far.Goals.{After-is_near}
 use Rattle.kept.proofs.first_far.Goals as goal
 
 -- the answer of `is_near`, told of the definitions
-told : (c : After-is_near invariant-loop decreases-loop) → let a = c.args in
+told : (c : After-is_near) → let a = c.args in
     near a.limit (endpoint_at a.p.now a.first.0 0) (endpoint_at a.p.now a.first.0 c.loop-i.i) ≡ c.is_near.result
 told c = rw (c.endpoint_at-c.ensures, c.endpoint_at-p0.ensures) at (sym c.is_near.ensures)
 
@@ -26,14 +25,14 @@ loop-i-init c = (omega arith, omega (arith, c.requires), refl)
 pub returns-then-not-is_near : goal.returns-then-not-is_near
 returns-then-not-is_near c =
     let l = c.loop-i in
-    record { least = l.invariant.0; within = l.invariant.1; kept = l.invariant.2; far = λ h. told c ∙ not-true _ c.if-not-is_near.true }
+    record { least = l.invariant.0; within = l.invariant.1; kept = l.invariant.2; far = λ h. told (goal.at.returns-then-not-is_near c).After-is_near ∙ c.if-not-is_near.true }
 
 pub loop-i-preserved : goal.loop-i-preserved
 loop-i-preserved c =
     let l = c.loop-i in
     let a = c.args in
     let h : 2 * l.i + 2 ≤ length a.p.now = omega (arith, c.loop-i-test.true) in
-    (omega arith, omega (arith, h), l.invariant.2 ∙ rw (points_at a.p.now a.first.0 l.i h) (keep_near _ _ _ _ (told c ∙ not-false _ c.if-not-is_near.false)))
+    (omega arith, omega (arith, h), l.invariant.2 ∙ rw (points_at a.p.now a.first.0 l.i h) (keep_near _ _ _ _ (told (goal.at.loop-i-preserved c).After-is_near ∙ c.if-not-is_near.false)))
 
 pub returns : goal.returns
 returns c =

@@ -1,4 +1,4 @@
--- `kept::first_far` meets its contract. The plan: as long as no point was far, what is kept behind the first is what is kept of the points from i on; a point that is
+-- The loop of `kept::first_far`: what each turn keeps, and what falls. Assumes nothing.
 use Prim.Native.Nat.{◌-◌, ◌/◌, ◌≤◌}
 use mathlib.Core.Path.{◌≡◌}
 use lib.ListN.{length, drop}

@@ -13,7 +13,7 @@ draw_runs-d-requires c =
     let pre = c.requires in
     let h = spare _ (length c.args.lengths.now) c.if-is_plenty-lengths.true in
     let q = rw (c.level_of.ensures, c.smaller.ensures) at (c.is_plenty.ensures h.0) in
-    (sound_paired _ _ pre.0, (pre.1, plenty_fits _ _ _ _ pre.0 pre.1 _ h.1 q))
+    record { paired = sound_paired _ _ pre.0; cuts_few = pre.1; fits = plenty_fits _ _ _ _ pre.0 pre.1 _ h.1 q }
 
 pub returns-then-is_plenty-lengths : goal.returns-then-is_plenty-lengths
 returns-then-is_plenty-lengths c =

@@ -1,4 +1,5 @@
 -- `options::line_join_of` meets its contract. Assumes nothing.
+use native.Mathlib.Omega.{arith}
 use borrow.Author.Tests.{ne_eqb}
 use Rattle.options.specs.Options.{line_join_of}
 use Rattle.options.proofs.line_join_of.Goals as goal
@@ -17,4 +18,4 @@ returns-in-2 c = rw c.in-2.is
 
 pub returns-in_default : goal.returns-in_default
 unfolding line_join_of
-returns-in_default c = rw (ne_eqb _ 0 c.in-0.rest.0.0.1, ne_eqb _ 1 c.in-0.rest.0.1, ne_eqb _ 2 c.in-0.rest.1)
+returns-in_default c = let n = c.args.number in rw (ne_eqb n 0 (omega arith), ne_eqb n 1 (omega arith), ne_eqb n 2 (omega arith))

@@ -31,7 +31,7 @@ pub returns-then-a-ne0 : goal.returns-then-a-ne0
 returns-then-a-ne0 c =
     let a = c.read_answer_of-a in
     let p = c.put_refused-then-a-ne0 in
-    record { puts_page = read_refused c.if-text-gt-TEXT_ROOM.false c.read.ensures a.ensures (ne_eqb a.result.number 0 c.if-a-ne0.true) p.ensures.0; upper_bound = p.ensures.1 }
+    record { puts_page = read_refused c.if-text-gt-TEXT_ROOM.false c.read.ensures a.ensures (ne_eqb a.result.number 0 c.if-a-ne0.true) p.ensures.puts; upper_bound = p.ensures.upper_bound }
 
 pub slice_bounds-verbs-end : goal.slice_bounds-verbs-end
 slice_bounds-verbs-end c =
@@ -58,4 +58,4 @@ pub returns : goal.returns
 returns c =
     let a = c.read_answer_of-a in
     let p = c.put_stroked in
-    record { puts_page = read_stroked c.if-text-gt-TEXT_ROOM.false c.read.ensures a.ensures (eq-eqb a.result.number 0 c.if-a-ne0.false) p.ensures.0; upper_bound = p.ensures.1 }
+    record { puts_page = read_stroked c.if-text-gt-TEXT_ROOM.false c.read.ensures a.ensures (eq-eqb a.result.number 0 c.if-a-ne0.false) p.ensures.puts; upper_bound = p.ensures.upper_bound }

@@ -32,7 +32,7 @@ returns-then-a-ne0 c =
     let t = c.tessellate in
     let a = c.mesh_answer_of-a in
     let p = c.put_refused in
-    record { puts = mesh_refused (rw o.ensures at t.ensures) a.ensures (ne_eqb a.result.number 0 c.if-a-ne0.true) p.ensures.0; upper_bound = p.ensures.1 }
+    record { puts = mesh_refused (rw o.ensures at t.ensures) a.ensures (ne_eqb a.result.number 0 c.if-a-ne0.true) p.ensures.puts; upper_bound = p.ensures.upper_bound }
 
 pub put_mesh-requires : goal.put_mesh-requires
 put_mesh-requires c =
@@ -48,4 +48,4 @@ returns c =
     let t = c.tessellate in
     let a = c.mesh_answer_of-a in
     let p = c.put_mesh in
-    record { puts = mesh_drawn (rw o.ensures at t.ensures) a.ensures (eq-eqb a.result.number 0 c.if-a-ne0.false) p.ensures.0; upper_bound = p.ensures.1 }
+    record { puts = mesh_drawn (rw o.ensures at t.ensures) a.ensures (eq-eqb a.result.number 0 c.if-a-ne0.false) p.ensures.puts; upper_bound = p.ensures.upper_bound }

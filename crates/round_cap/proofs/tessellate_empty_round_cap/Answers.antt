@@ -9,7 +9,7 @@ corners_from-q-requires c =
 
 pub lay_square-k-requires : goal.lay_square-k-requires
 lay_square-k-requires c =
-    (c.requires.id_lt_id_limit, rw c.corners_from-q.ensures (square_fits c.args.detail c.args.base c.args.e c.args.h c.requires.fits))
+    record { id_lt_id_limit = c.requires.id_lt_id_limit; fits = rw c.corners_from-q.ensures (square_fits c.args.detail c.args.base c.args.e c.args.h c.requires.fits) }
 
 pub lay_rim-requires : goal.lay_rim-requires
 lay_rim-requires c =

@@ -7,7 +7,7 @@ use Rattle.run.proofs.draw_strip.Goals as goal
 
 pub pass_strip-s-requires : goal.pass_strip-s-requires
 pass_strip-s-requires c =
-    (c.requires.within, strip_needs c.args.pass c.args.closed _ c.requires.within c.requires.draw_fits)
+    record { within = c.requires.within; strip_fits = strip_needs c.args.pass c.args.closed _ c.requires.within c.requires.draw_fits }
 
 pub weave_behind-requires : goal.weave_behind-requires
 weave_behind-requires c =

@@ -69,7 +69,7 @@ draw_cut-run-requires c =
     let within = c.requires.inside in
     let few = part_cuts c.args.stroke _ c.args.g c.args.verb _ (ends (goal.at.draw_cut-run-requires c).After-next_vertex) (points_part _ _ _) c.requires.cuts_few in
     let room = part_fits _ _ c.args.g c.args.verb _ (ends (goal.at.draw_cut-run-requires c).After-next_vertex) c.place_of-a.ensures c.place_of-b.ensures c.place_of-c.ensures c.next_vertex.ensures (points_part _ _ _) c.requires.fits in
-    (simp (length-take, length-drop) (omega (arith, within.end, within.few)), (few, room))
+    record { p_bound = simp (length-take, length-drop) (omega (arith, within.end, within.few)); cuts_few = few; fits = room }
 
 pub overflow_add-vertices : goal.overflow_add-vertices
 overflow_add-vertices c = omega (arith, few (goal.at.overflow_add-vertices c).After-draw_cut-run)

@@ -5,24 +5,20 @@ use mathlib.Core.Path.{refl}
 use native.Mathlib.Omega.{arith}
 use Rattle.runs.specs.Passes.{Inside}
 use Rattle.runs.proofs.Drawing.{going_none, going_inside, going_few, going_fits, going_turn, going_all}
-use Rattle.runs.proofs.draw_runs.Goals.{At-loop-i, Start}
+use Rattle.runs.proofs.draw_runs.Goals.{At-loop-i}
 use Rattle.runs.proofs.draw_runs.Goals as goal
 
--- from the loop back to the start
-abbrev entry : At-loop-i invariant-loop decreases-loop → Start invariant-loop decreases-loop
-entry c = c
-
-inside : (c : At-loop-i invariant-loop decreases-loop) → Inside c.loop-i.g (entry c).args.coords.now
-inside c = going_inside c.loop-i.invariant.0 (entry c).args.coords.now (entry c).requires.0
+inside : (c : At-loop-i) → Inside c.loop-i.g c.args.coords.now
+inside c = going_inside c.loop-i.invariant.0 c.args.coords.now c.requires.paired
 
 pub loop-i-init : goal.loop-i-init
 loop-i-init c = (rw c.start-g.ensures (going_none _ _ _ _ _ _), refl, refl, refl)
 
 pub draw_verb-place-requires : goal.draw_verb-place-requires
-draw_verb-place-requires c = let taken = c.loop-i-test.true in (inside c, (going_few c.loop-i.invariant.0 taken (entry c).requires.1.0, going_fits c.loop-i.invariant.0 taken (entry c).requires.1.1))
+draw_verb-place-requires c = let taken = c.loop-i-test.true in record { inside = inside (goal.at.draw_verb-place-requires c).At-loop-i; cuts_few = going_few c.loop-i.invariant.0 taken c.requires.cuts_few; fits = going_fits c.loop-i.invariant.0 taken c.requires.fits }
 
 pub moved-g-requires : goal.moved-g-requires
-moved-g-requires c = omega (arith, inside c)
+moved-g-requires c = omega (arith, inside (goal.at.moved-g-requires c).At-loop-i)
 
 pub overflow_add-i : goal.overflow_add-i
 overflow_add-i c =

@@ -1,4 +1,4 @@
--- `runs::draw_runs` meets its contract. The plan: the loop's invariant is Drawing's `Going`, from its start (`going_none`) by one verb a turn (`going_turn`) to the end of the verbs (`going_all`). Assumes nothing.
+-- The loop of `runs::draw_runs`: what each turn keeps, and what falls. Assumes nothing.
 use Prim.Native.Nat.{◌-◌}
 use mathlib.Core.Path.{◌≡◌}
 use lib.ListN.{length}

@@ -1,9 +1,7 @@
 -- `stl_read::put_all` meets its contract. Assumes nothing.
-use Prim.Native.Nat.{◌-◌}
 use mathlib.Core.Path.{refl}
 use native.Mathlib.Omega.{arith}
 use lib.ListN.{length-take, length-drop}
-use Rattle.stl.specs.File.{facet_at}
 use Rattle.stl.proofs.Each.{row_none, row_room, row_turn, row_done}
 use Rattle.stl_read.proofs.put_all.Goals as goal
 
@@ -45,7 +43,7 @@ loop-k-smaller c = omega (arith, c.loop-k-test.true)
 pub loop-k-preserved : goal.loop-k-preserved
 loop-k-preserved c =
     row_turn _ _ 6 _ _ c.requires.room _ _ _ c.loop-k.invariant
-    c.loop-k-test.true refl _ c.put_corners.auto.0
+    c.loop-k-test.true refl _ c.put_corners.auto.corners
     (rw c.facet_at.ensures at c.put_corners.ensures)
 
 pub returns : goal.returns

@@ -1,8 +1,6 @@
 -- `stl_write::put_facets` meets its contract. Assumes nothing.
-use Prim.Native.Nat.{◌-◌}
 use native.Mathlib.Omega.{arith}
 use lib.ListN.{length-take, length-drop}
-use Rattle.stl.specs.Write.{facet_of}
 use Rattle.stl.proofs.Each.{row_none, row_room, row_turn, row_done}
 use Rattle.stl_write.proofs.Fine.{facet_finite}
 use Rattle.stl.proofs.Back.{length_facet}
@@ -43,7 +41,7 @@ loop-k-smaller c = omega (arith, c.loop-k-test.true)
 pub loop-k-preserved : goal.loop-k-preserved
 loop-k-preserved c =
     row_turn _ _ 50 _ _ c.requires.triangles_in_bounds _ _ _ c.loop-k.invariant
-    c.loop-k-test.true (length_facet _) _ c.put_facet.auto.0
+    c.loop-k-test.true (length_facet _) _ c.put_facet.auto.bytes
     (rw c.facet_of.ensures at c.put_facet.ensures)
 
 pub returns : goal.returns

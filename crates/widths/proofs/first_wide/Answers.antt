@@ -1,5 +1,4 @@
 -- `widths::first_wide` meets its contract. Assumes nothing.
-use Prim.Native.Nat.{◌-◌}
 use native.Mathlib.Omega.{arith}
 use Rattle.widths.proofs.Copying.{passed_none, passed_stop, passed_one, passed_all}
 use Rattle.widths.proofs.first_wide.Goals as goal

@@ -1,5 +1,4 @@
 -- `widths::put_narrow` meets its contract: of the numbers, i are written over the list. Assumes nothing.
-use Prim.Native.Nat.{◌-◌}
 use mathlib.Core.Path.{sym}
 use native.Mathlib.Omega.{arith}
 use Rattle.lists.proofs.Laws.{over_none}

@@ -40,7 +40,7 @@ slice_bounds-weave_run-start-2 c = omega (arith, room (goal.at.slice_bounds-weav
 pub weave_run-k-requires : goal.weave_run-k-requires
 weave_run-k-requires c =
     let a = c.args in
-    (c.requires.within, part_fits a.closed a.pass.stroke a.r a.at.vertex _ a.n c.requires.woven_fits c.vertex_after-arcs.ensures c.place_of-b.result c.place_of-b.ensures)
+    record { within = c.requires.within; woven_fits = part_fits a.closed a.pass.stroke a.r a.at.vertex _ a.n c.requires.woven_fits c.vertex_after-arcs.ensures c.place_of-b.result c.place_of-b.ensures }
 
 pub returns : goal.returns
 returns c =

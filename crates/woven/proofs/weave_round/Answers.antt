@@ -6,7 +6,7 @@ use Rattle.woven.proofs.weave_round.Goals as goal
 pub weave_closed-w-requires : goal.weave_closed-w-requires
 weave_closed-w-requires c =
     let a = c.args in
-    (c.requires.within, closed_fits a.pass.stroke a.r a.at.vertex _ _ _ c.requires.woven_fits (ids a.pass.stroke.near c.requires.within))
+    record { within = c.requires.within; weave_fits = closed_fits a.pass.stroke a.r a.at.vertex _ _ _ c.requires.woven_fits (ids a.pass.stroke.near c.requires.within) }
 
 pub close_round-requires : goal.close_round-requires
 close_round-requires c =

@@ -17,7 +17,7 @@ weave_open-w-requires c =
     let a = c.args in
     let h = rw c.if-closed.false at c.requires.woven_fits in
     let n = ids a.pass.stroke.near c.requires.within in
-    (c.requires.within, (cap_fits a.pass.stroke a.r a.at.vertex _ _ _ h (lent [] [] []), open_fits a.pass.stroke a.r a.at.vertex _ _ _ h n))
+    record { within = c.requires.within; strip_fits = cap_fits a.pass.stroke a.r a.at.vertex _ _ _ h (lent [] [] []); weave_fits = open_fits a.pass.stroke a.r a.at.vertex _ _ _ h n }
 
 pub returns : goal.returns
 returns c =

@@ -19,7 +19,7 @@ slice_bounds-pass_points-end c = sym (length-take-le 2 c.args.p.now (two (goal.a
 pub pass_points-home-requires : goal.pass_points-home-requires
 pass_points-home-requires c =
     let a = c.args in
-    (omega (arith, length-take-le 2 a.p.now (two (goal.at.pass_points-home-requires c).Start), c.requires.within), rw (points_one a.p.now a.on.first.0 (two (goal.at.pass_points-home-requires c).Start)) (home_has _ _ _ _ c.requires.strip_fits))
+    record { p_bound = omega (arith, length-take-le 2 a.p.now (two (goal.at.pass_points-home-requires c).Start), c.requires.within); strip_fits = rw (points_one a.p.now a.on.first.0 (two (goal.at.pass_points-home-requires c).Start)) (home_has _ _ _ _ c.requires.strip_fits) }
 
 pub endpoint_after-requires : goal.endpoint_after-requires
 endpoint_after-requires c = omega (arith, c.requires.within)

@@ -4,7 +4,7 @@ use Rattle.along.proofs.strips.pass_closed.Goals as goal
 
 pub pass_points-w-requires : goal.pass_points-w-requires
 pass_points-w-requires c =
-    (c.requires.within.few, way_has c.args.pass.stroke _ _ _ c.first_leg-leg.ensures c.start.ensures c.requires.strip_fits)
+    record { p_bound = c.requires.within.few; strip_fits = way_has c.args.pass.stroke _ _ _ c.first_leg-leg.ensures c.start.ensures c.requires.strip_fits }
 
 pub go_round-requires : goal.go_round-requires
 go_round-requires c =

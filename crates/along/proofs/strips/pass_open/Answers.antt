@@ -9,7 +9,7 @@ begin-begun-requires c =
 
 pub pass_points-w-requires : goal.pass_points-w-requires
 pass_points-w-requires c =
-    (c.requires.within.few, pass_has c.args.pass.stroke _ _ _ c.first_leg-leg.ensures c.requires.strip_fits c.begin-begun.ensures)
+    record { p_bound = c.requires.within.few; strip_fits = pass_has c.args.pass.stroke _ _ _ c.first_leg-leg.ensures c.requires.strip_fits c.begin-begun.ensures }
 
 pub finish-requires : goal.finish-requires
 finish-requires c =

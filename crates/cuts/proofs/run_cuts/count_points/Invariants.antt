@@ -1,4 +1,4 @@
--- `cuts::run_cuts::count_points` meets its contract. The plan: the loop's invariant is Counting's `Counting`, from its start by one point a turn to the end of the points. Assumes nothing.
+-- The loop of `cuts::run_cuts::count_points`: what each turn keeps, and what falls. Assumes nothing.
 use Prim.Native.Nat.{◌-◌}
 use Rattle.cuts.proofs.Counting.{Counting}
 use Rattle.cuts.proofs.run_cuts.count_points.Given as goal

@@ -40,7 +40,7 @@ slice_bounds-weave_dash-start-2 c = omega (arith, room (goal.at.slice_bounds-wea
 
 pub weave_dash-k-requires : goal.weave_dash-k-requires
 weave_dash-k-requires c =
-    (c.requires.dash_fits, part_fits false c.args.pass.stroke c.args.r c.args.at.vertex _ c.args.n c.requires.woven_fits c.vertex_after-arcs.ensures c.place_of-b.result c.place_of-b.ensures)
+    record { dash_fits = c.requires.dash_fits; woven_fits = part_fits false c.args.pass.stroke c.args.r c.args.at.vertex _ c.args.n c.requires.woven_fits c.vertex_after-arcs.ensures c.place_of-b.result c.place_of-b.ensures }
 
 pub returns : goal.returns
 returns c =

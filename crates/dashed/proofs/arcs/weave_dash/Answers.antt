@@ -9,7 +9,7 @@ begin-begun-requires c =
 
 pub weave_on-w-requires : goal.weave_on-w-requires
 weave_on-w-requires c =
-    ((c.requires.dash_fits.feed, c.requires.dash_fits.numbered.1.1), on_has c.args.pass.stroke c.args.r _ _ _ c.leg_of-leg.ensures c.args.at.vertex c.requires.woven_fits c.begin-begun.ensures (fits_numbered c.requires.dash_fits))
+    record { feed_fits = (c.requires.dash_fits.feed, c.requires.dash_fits.numbered.1.1); weave_fits = on_has c.args.pass.stroke c.args.r _ _ _ c.leg_of-leg.ensures c.args.at.vertex c.requires.woven_fits c.begin-begun.ensures (fits_numbered c.requires.dash_fits) }
 
 pub returns : goal.returns
 returns c =

@@ -1,4 +1,4 @@
--- `dashed::arcs::weave_on` meets its contract. The plan: `Weaving` says how far the dash has come, point by point. Assumes nothing.
+-- The loop of `dashed::arcs::weave_on`: what each turn keeps, and what falls. Assumes nothing.
 use mathlib.Core.Path.{◌≡◌}
 use lib.ListN.{length}
 use Rattle.pieces.specs.Piece.{lent}

@@ -14,7 +14,7 @@ loop-n-init c =
 
 pub strip_one-w-requires : goal.strip_one-w-requires
 strip_one-w-requires c =
-    (turn_counted _ _ _ _ c.loop-n.invariant.0 c.loop-n-test.true, turn_has _ _ _ _ c.loop-n.invariant.0 c.loop-n-test.true (rw c.next_point-n.ensures.points at c.requires.strip_fits))
+    record { well_numbered = turn_counted _ _ _ _ c.loop-n.invariant.0 c.loop-n-test.true; strip_fits = turn_has _ _ _ _ c.loop-n.invariant.0 c.loop-n-test.true (rw c.next_point-n.ensures.points at c.requires.strip_fits) }
 
 pub next_point-n-requires-in-loop-n : goal.next_point-n-requires-in-loop-n
 next_point-n-requires-in-loop-n c = c.loop-n.invariant.0.fits

@@ -3,7 +3,6 @@
 use Prim.Native.Nat.{◌-◌}
 use mathlib.Core.Path.{sym, ◌∙◌}
 use native.Mathlib.Omega.{arith}
-use borrow.Author.Tests.{not-true, not-false}
 use Rattle.dashes.proofs.Looping.{counting_none, counting_one, counting_stop, counting_all, counted}
 use Rattle.dashes.proofs.count.count_edge.Goals as goal
 
@@ -13,7 +12,7 @@ loop-n-init c = counting_none _ _ _
 pub returns-then-not-falls : goal.returns-then-not-falls
 returns-then-not-falls c =
     let l = c.loop-n in
-    let stops = sym c.falls.ensures ∙ not-true _ c.if-not-falls.true in
+    let stops = sym c.falls.ensures ∙ c.if-not-falls.true in
     counted _ _ _ _ l.invariant.reached l.invariant.index (counting_stop _ _ _ _ _ l.invariant c.loop-n-test.true stops)
 
 pub passed-s-requires : goal.passed-s-requires
@@ -22,7 +21,7 @@ passed-s-requires c = omega (arith, c.requires, c.loop-n.invariant.index, c.loop
 pub loop-n-preserved : goal.loop-n-preserved
 loop-n-preserved c =
     let l = c.loop-n in
-    let falls = sym c.falls.ensures ∙ not-false _ c.if-not-falls.false in
+    let falls = sym c.falls.ensures ∙ c.if-not-falls.false in
     rw c.passed-s.ensures (counting_one _ _ _ _ _ l.invariant c.loop-n-test.true falls)
 
 pub returns : goal.returns

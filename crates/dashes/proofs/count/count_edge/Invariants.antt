@@ -1,4 +1,4 @@
--- `dashes::count::count_edge` meets its contract. The invariant: the cuts passed so far and those still to come on the edge are all its cuts, and what is
+-- The loop of `dashes::count::count_edge`: what each turn keeps, and what falls. Assumes nothing.
 use Prim.Native.Nat.{◌-◌}
 use Rattle.dashes.proofs.Looping.{Counting}
 use Rattle.dashes.proofs.count.count_edge.Given as goal

@@ -1,7 +1,6 @@
 -- `dashes::pattern::are_lengths` meets its contract. The invariant: the whole list is in range exactly where the lengths from i on are. Assumes nothing.
 use Prim.Native.Nat.{◌-◌}
 use mathlib.Core.Path.{sym, ◌∙◌}
-use borrow.Author.Tests.{not-true, not-false}
 use Rattle.dashes.proofs.Looping.{tested_none, tested_one, tested_stop, tested_all}
 use Rattle.dashes.proofs.pattern.are_lengths.Goals as goal
 
@@ -9,10 +8,10 @@ pub loop-i-init : goal.loop-i-init
 loop-i-init c = tested_none _
 
 pub returns-then-not-is_length : goal.returns-then-not-is_length
-returns-then-not-is_length c = tested_stop _ _ c.loop-i.invariant c.loop-i-test.true (sym c.is_length.ensures ∙ not-true _ c.if-not-is_length.true)
+returns-then-not-is_length c = tested_stop _ _ c.loop-i.invariant c.loop-i-test.true (sym c.is_length.ensures ∙ c.if-not-is_length.true)
 
 pub loop-i-preserved : goal.loop-i-preserved
-loop-i-preserved c = tested_one _ _ c.loop-i.invariant c.loop-i-test.true (sym c.is_length.ensures ∙ not-false _ c.if-not-is_length.false)
+loop-i-preserved c = tested_one _ _ c.loop-i.invariant c.loop-i-test.true (sym c.is_length.ensures ∙ c.if-not-is_length.false)
 
 pub returns : goal.returns
 returns c = tested_all _ _ c.loop-i.invariant c.loop-i-test.false

@@ -9,8 +9,8 @@ returns-then-ds-gt16 c = rw (lt-leb _ _ c.if-ds-gt16.true)
 
 pub returns-then-not-is_offset : goal.returns-then-not-is_offset
 unfolding pattern_in
-returns-then-not-is_offset c = rw (le-leb _ _ c.if-ds-gt16.false, ← c.is_offset.ensures, not-true c.is_offset.result c.if-not-is_offset.true)
+returns-then-not-is_offset c = rw (le-leb _ _ c.if-ds-gt16.false, ← c.is_offset.ensures, c.if-not-is_offset.true)
 
 pub returns : goal.returns
 unfolding pattern_in
-returns c = rw (le-leb _ _ c.if-ds-gt16.false, ← c.is_offset.ensures, not-false c.is_offset.result c.if-not-is_offset.false) c.are_lengths.ensures
+returns c = rw (le-leb _ _ c.if-ds-gt16.false, ← c.is_offset.ensures, c.if-not-is_offset.false) c.are_lengths.ensures

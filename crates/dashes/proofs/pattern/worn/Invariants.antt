@@ -1,4 +1,4 @@
--- `dashes::pattern::worn` meets its contract. The invariant: wearing the offset down from the first length comes to the same as wearing what remains
+-- The loop of `dashes::pattern::worn`: what each turn keeps, and what falls. Assumes nothing.
 use Prim.Native.Nat.{◌-◌}
 use Rattle.dashes.proofs.Looping.{Wearing}
 use Rattle.dashes.proofs.pattern.worn.Given as goal

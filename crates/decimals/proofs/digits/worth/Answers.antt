@@ -21,6 +21,3 @@ returns-in-4 c = rw c.in-4.is (refl, lit≤ tt)
 
 pub returns-in-5 : goal.returns-in-5
 returns-in-5 c = rw c.in-5.is (refl, lit≤ tt)
-
-pub returns-in_default : goal.returns-in_default
-returns-in_default c = let r = c.in-0.rest in (many_places _ r.0.0.0.0.0.1 r.0.0.0.0.1 r.0.0.0.1 r.0.0.1 r.0.1 r.1, lit≤ tt)

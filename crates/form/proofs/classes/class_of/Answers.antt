@@ -1,9 +1,9 @@
 -- `form::classes::class_of` meets its contract. Assumes nothing.
-use mathlib.Core.Logic.{inl, inr, ⊎_elim}
-use native.Mathlib.Omega.{arith}
+use Rattle.std.proofs.Common.{◌<◌, ◌⊎◌, inl, inr, arith, rules}
 use Rattle.form.specs.Bytes.{class_of}
 use Rattle.form.proofs.Bytes.{tab_or_feed, feed_or_return, sign_class, move_class, line_class, along_class, close_class, digit_class_lem, other_class}
 use Rattle.form.proofs.classes.class_of.Goals as goal
+use Rattle.form.proofs.classes.class_of.Goals.{then-b-ge48+else-b-le57, else-b-ge48}
 
 pub returns-then-b-le57 : goal.returns-then-b-le57
 returns-then-b-le57 c = digit_class_lem _ c.if-b-ge48.true c.if-b-le57.true
@@ -31,23 +31,23 @@ returns-in-72 c = along_class _ c.in-72.is
 pub returns-in-90 : goal.returns-in-90
 returns-in-90 c = close_class _ c.in-90.is
 
-pub returns-in_default : goal.returns-in_default
-returns-in_default c = other_class _ (inr (omega arith)) c.in-32.rest (omega arith) (omega arith) (omega arith) (omega arith)
-
-pub returns-in_default-2 : goal.returns-in_default-2
-returns-in_default-2 c = other_class _ (inr (omega arith)) c.in-32.rest (omega arith) (omega arith) (omega arith) (omega arith)
-
-pub returns-in_default-3 : goal.returns-in_default-3
-returns-in_default-3 c =
-    let no_digit = ⊎_elim (λ w. inl w.1.left) (λ w. inr w.left) c.if-b-ge48.branch in
-    other_class _ no_digit c.in-32.rest (omega arith) (omega arith) (omega arith) (omega arith)
-
 pub returns-in-32 : goal.returns-in-32
 unfolding class_of
 returns-in-32 c = rw c.in-32.is
 
+pub returns-in_default : goal.returns-in_default
+returns-in_default c = other_class _ (inr (omega arith)) (search rules) (omega arith) (omega arith) (omega arith) (omega arith)
+
+pub returns-in_default-2 : goal.returns-in_default-2
+returns-in_default-2 c = other_class _ (inr (omega arith)) (search rules) (omega arith) (omega arith) (omega arith) (omega arith)
+
+pub returns-in_default-3 : goal.returns-in_default-3
+returns-in_default-3 c =
+    let no_digit : (57 < c.args.b) ⊎ (c.args.b < 48) = elim c.if-b-ge48.branch [ then-b-ge48+else-b-le57 w ↦ inl w.if-b-le57.false | else-b-ge48 w ↦ inr w.if-b-ge48.false ] in
+    other_class _ no_digit (search rules) (omega arith) (omega arith) (omega arith) (omega arith)
+
 pub returns-in-32-2 : goal.returns-in-32-2
-returns-in-32-2 c = tab_or_feed _ c.if-b-lt9.false c.if-b-lt11.true
+returns-in-32-2 c = tab_or_feed _ (omega arith) (omega arith)
 
 pub returns-in-32-3 : goal.returns-in-32-3
-returns-in-32-3 c = feed_or_return _ c.if-b-lt12.false c.if-b-lt14.true
+returns-in-32-3 c = feed_or_return _ (omega arith) (omega arith)

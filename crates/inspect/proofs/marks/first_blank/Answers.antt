@@ -1,5 +1,4 @@
 -- `inspect::marks::first_blank` meets its contract. Every mark before the loop's is there. Assumes nothing.
-use Prim.Native.Nat.{◌-◌}
 use native.Mathlib.Omega.{arith}
 use Rattle.inspect.proofs.Firsts.{clear_none, clear_more, first_found, first_end}
 use Rattle.inspect.proofs.Marking.{is_blank_lem, is_marked}

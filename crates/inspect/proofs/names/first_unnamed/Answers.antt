@@ -1,5 +1,4 @@
 -- `inspect::names::first_unnamed` meets its contract. Every vertex before the part is named. Assumes nothing.
-use Prim.Native.Nat.{◌-◌}
 use native.Mathlib.Omega.{arith}
 use Rattle.inspect.proofs.Firsts.{clear_none, first_end, first_part, clear_part}
 use Rattle.inspect.proofs.names.first_unnamed.Goals as goal

@@ -1,5 +1,4 @@
 -- `inspect::names::mark` meets its contract. The marks are those of the numbers so far. Assumes nothing.
-use Prim.Native.Nat.{◌-◌}
 use native.Mathlib.Omega.{arith}
 use Rattle.inspect.proofs.Marking.{marked_none, marked_more, marked_all}
 use Rattle.inspect.proofs.names.mark.Goals as goal

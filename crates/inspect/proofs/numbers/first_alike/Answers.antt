@@ -1,5 +1,4 @@
 -- `inspect::numbers::first_alike` meets its contract. The three of every triangle before the loop's differ. Assumes nothing.
-use Prim.Native.Nat.{◌-◌}
 use mathlib.Core.Path.{sym, ap, ◌∙◌}
 use native.Mathlib.Omega.{arith}
 use Rattle.inspect.specs.Faults.{alike, two_alike_in}

@@ -1,5 +1,4 @@
 -- `inspect::numbers::first_large` meets its contract. Every number before the loop's is below the count. Assumes nothing.
-use Prim.Native.Nat.{◌-◌}
 use native.Mathlib.Omega.{arith}
 use Rattle.inspect.proofs.Firsts.{clear_none, clear_more, first_found, first_end}
 use Rattle.inspect.proofs.Judging.{is_large_lem, not_large}

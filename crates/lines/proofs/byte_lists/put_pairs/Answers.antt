@@ -1,5 +1,5 @@
 -- `lines::byte_lists::put_pairs` meets its contract. The loop's invariant is `Pairing`. Assumes nothing.
-use Prim.Native.Nat.{◌+◌, ◌-◌, ◌*◌}
+use Prim.Native.Nat.{◌+◌, ◌*◌}
 use native.Mathlib.Omega.{arith}
 use Rattle.lines.proofs.Pairs.{pair_lt, pairing_starts, pairing_goes, pairing_ends}
 use Rattle.lines.proofs.byte_lists.put_pairs.Goals as goal

@@ -13,12 +13,15 @@ returns-in-Count c =
     let f = c.next_word-w.ensures in
     let e = c.parse.ensures in
     let w = word_at c.args.line.now c.args.place in
-    let n = c.count-1.given in
-    record { value = rw (← f.word, ← f.after, ← e.0, n.1); count_in_bounds = count_le (length c.args.list.now) w n.0.0 (rw (← f.word) (sym e.0 ∙ n.1)); list_after = rw (← f.word) e.1 }
+    record {
+      value = rw (← f.word, ← f.after, ← e.value, c.in-Count.is);
+      count_in_bounds = count_le (length c.args.list.now) w c.in-Count.count (rw (← f.word) (sym e.value ∙ c.in-Count.is));
+      list_after = rw (← f.word) e.list_after;
+    }
 
 pub returns-in-Bad : goal.returns-in-Bad
 unfolding bytes_at
 returns-in-Bad c =
     let f = c.next_word-w.ensures in
     let e = c.parse.ensures in
-    record { value = rw (← f.word, ← e.0, c.in-Bad.is); count_in_bounds = omega arith; list_after = rw (← f.word) e.1 }
+    record { value = rw (← f.word, ← e.value, c.in-Bad.is); count_in_bounds = omega arith; list_after = rw (← f.word) e.list_after }

@@ -1,5 +1,4 @@
 -- `lines::digits::are_digits` meets its contract. The loop's invariant: the whole word is digits where the rest of it is. Assumes nothing.
-use Prim.Native.Nat.{◌-◌}
 use mathlib.Core.Path.{refl, sym, ◌∙◌}
 use Rattle.lines.proofs.Pairs.{digits_go, digits_stop, digits_end}
 use Rattle.lines.proofs.digits.are_digits.Goals as goal

@@ -8,7 +8,7 @@ use Rattle.lines.proofs.floats.parse.Goals as goal
 
 pub returns-then-word-ne8 : goal.returns-then-word-ne8
 unfolding float_of
-returns-then-word-ne8 c = let both = rw (ne_eqb (length c.args.word.now) 8 c.if-word-ne8.true) in record { value = both.0; list_after = both.1 }
+returns-then-word-ne8 c = rw (ne_eqb (length c.args.word.now) 8 c.if-word-ne8.true)
 
 pub overflow_cast-bits : goal.overflow_cast-bits
 overflow_cast-bits c =
@@ -17,8 +17,8 @@ overflow_cast-bits c =
 
 pub returns-in-Value : goal.returns-in-Value
 unfolding float_of
-returns-in-Value c = let both = rw (eq-eqb (length c.args.word.now) 8 c.if-word-ne8.false, ← c.spelt.ensures, c.in-Value.is) c.of_bits.ensures in record { value = both.0; list_after = both.1 }
+returns-in-Value c = rw (eq-eqb (length c.args.word.now) 8 c.if-word-ne8.false, ← c.spelt.ensures, c.in-Value.is) c.of_bits.ensures
 
 pub returns-in-Bad : goal.returns-in-Bad
 unfolding float_of
-returns-in-Bad c = let both = rw (eq-eqb (length c.args.word.now) 8 c.if-word-ne8.false, ← c.spelt.ensures, c.in-Bad.is) in record { value = both.0; list_after = both.1 }
+returns-in-Bad c = rw (eq-eqb (length c.args.word.now) 8 c.if-word-ne8.false, ← c.spelt.ensures, c.in-Bad.is)

@@ -1,5 +1,4 @@
 -- `lines::numbers::spelt` meets its contract. The loop's invariant is `Spelling`. Assumes nothing.
-use Prim.Native.Nat.{◌-◌}
 use native.Mathlib.Omega.{arith}
 use Rattle.lines.proofs.Spelling.{spelling_starts, spelling_fits, spelling_goes, spelling_stops, spelling_ends}
 use Rattle.lines.proofs.numbers.spelt.Goals as goal

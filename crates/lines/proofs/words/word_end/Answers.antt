@@ -1,5 +1,4 @@
 -- `lines::words::word_end` meets its contract. The loop's invariant: the word ends where the scan from here will find its end. Assumes nothing.
-use Prim.Native.Nat.{◌-◌}
 use mathlib.Core.Path.{refl, sym, ◌∙◌}
 use Rattle.lines.proofs.Spaces.{upto_end, upto_space, upto_more}
 use Rattle.lines.proofs.words.word_end.Goals as goal

@@ -12,7 +12,7 @@ use Rattle.measure.proofs.part.find_stroked.Goals as goal
 pub count_run-told-requires : goal.count_run-told-requires
 count_run-told-requires c =
     let s = cut_sound _ _ _ _ _ (ap (λ (a : Verdict). a.number) (sym c.check_cut_path.ensures ∙ ap check_answer_of c.in-Accepted.is)) in
-    (sound_paired _ _ s.0, (omega (arith, s.0.few), (s.1, counts_fit _ _ _ _ s.0 s.1 _)))
+    record { paired = sound_paired _ _ s.0; verbs_len_bound = omega (arith, s.0.few); cuts_few = s.1; fits = counts_fit _ _ _ _ s.0 s.1 _ }
 
 pub judged-requires : goal.judged-requires
 judged-requires c =

@@ -44,7 +44,7 @@ pub put_triangle-next-requires : goal.put_triangle-next-requires
 put_triangle-next-requires c =
     let i = c.loop-i.i in
     let short = c.requires.are_short in
-    (omega arith, (short (3 * i), short (3 * i + 1), short (3 * i + 2)))
+    record { at_bound = omega arith; a_bound = (short (3 * i), short (3 * i + 1), short (3 * i + 2)) }
 
 pub overflow_add-i-in-loop-i-2 : goal.overflow_add-i-in-loop-i-2
 overflow_add-i-in-loop-i-2 c = omega arith

@@ -1,7 +1,6 @@
 -- `path::coordinates::search` meets its contract. Assumes nothing.
 use Prim.Native.Nat.{◌-◌}
 use mathlib.Core.Path.{sym, ◌∙◌}
-use borrow.Author.Tests.{not-true, not-false}
 use Rattle.path.proofs.Bounding.{within_none, within_one, within_stop, within_all}
 use Rattle.path.proofs.coordinates.search.Goals as goal
 
@@ -10,11 +9,11 @@ loop-i-init c = within_none _
 
 pub returns-then-not-is_in_limits : goal.returns-then-not-is_in_limits
 returns-then-not-is_in_limits c =
-    within_stop _ _ c.loop-i.invariant c.loop-i-test.true (sym c.is_in_limits.ensures ∙ not-true _ c.if-not-is_in_limits.true)
+    within_stop _ _ c.loop-i.invariant c.loop-i-test.true (sym c.is_in_limits.ensures ∙ c.if-not-is_in_limits.true)
 
 pub loop-i-preserved : goal.loop-i-preserved
 loop-i-preserved c =
-    within_one _ _ c.loop-i.invariant c.loop-i-test.true (sym c.is_in_limits.ensures ∙ not-false _ c.if-not-is_in_limits.false)
+    within_one _ _ c.loop-i.invariant c.loop-i-test.true (sym c.is_in_limits.ensures ∙ c.if-not-is_in_limits.false)
 
 pub returns : goal.returns
 returns c = within_all _ _ c.loop-i.invariant c.loop-i-test.false

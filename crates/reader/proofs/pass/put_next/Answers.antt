@@ -5,4 +5,4 @@ pub returns : goal.returns
 returns c =
     let put = c.put_at.ensures in
     let n = c.added.ensures in
-    λ j. record { counts = n j; verbs = put.0 j; coords = put.1 j }
+    λ j. record { counts = n j; verbs = put.verbs_after j; coords = put.coords_after j }

@@ -23,4 +23,4 @@ pub returns : goal.returns
 returns c =
     let square = sym c.rounds_caps.ensures ∙ c.if-rounds_caps.false in
     let e = c.tessellate_empty_square_cap.ensures in
-    rw square (λ w. square_laid c.args.o _ c.args.p _ _ _ e.0 e.1.0 e.1.1)
+    rw square (λ w. square_laid c.args.o _ c.args.p _ _ _ e.v_after e.src_after e.t_after)

@@ -15,7 +15,7 @@ pub count_verb-place-requires : goal.count_verb-place-requires
 count_verb-place-requires c =
     let m = going c.loop-i.invariant.0 in
     let taken = c.loop-i-test.true in
-    (going_inside m _ c.requires.paired, (going_few m taken c.requires.cuts_few, going_fits m taken c.requires.fits))
+    record { inside = going_inside m _ c.requires.paired; cuts_few = going_few m taken c.requires.cuts_few; fits = going_fits m taken c.requires.fits }
 
 pub noted-s-requires : goal.noted-s-requires
 noted-s-requires c =

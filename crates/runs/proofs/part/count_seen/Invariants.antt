@@ -1,4 +1,4 @@
--- `runs::part::count_seen` meets its contract. The plan: the loop's invariant is `Seeing`, from its start (`seeing_none`) by one verb a turn (`seeing_turn`) to the
+-- The loop of `runs::part::count_seen`: what each turn keeps, and what falls. Assumes nothing.
 use Prim.Native.Nat.{◌-◌}
 use mathlib.Core.Path.{◌≡◌}
 use lib.ListN.{length}

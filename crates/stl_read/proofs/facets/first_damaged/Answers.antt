@@ -1,5 +1,4 @@
 -- `stl_read::facets::first_damaged` meets its contract. Assumes nothing.
-use Prim.Native.Nat.{◌-◌}
 use mathlib.Core.Path.{sym, ◌∙◌}
 use native.Mathlib.Omega.{arith}
 use Rattle.stl.proofs.Each.{first_start, first_pass, first_stop, first_done}

@@ -1,5 +1,4 @@
 -- `stl_write::corners::first_refused` meets its contract. Assumes nothing.
-use Prim.Native.Nat.{◌-◌}
 use mathlib.Core.Path.{sym, ◌∙◌}
 use native.Mathlib.Omega.{arith}
 use Rattle.stl.proofs.Each.{first_start, first_pass, first_stop, first_done}

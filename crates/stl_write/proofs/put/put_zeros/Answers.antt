@@ -1,5 +1,4 @@
 -- `stl_write::put::put_zeros` meets its contract. Assumes nothing.
-use Prim.Native.Nat.{◌-◌}
 use mathlib.Core.Path.{sym}
 use native.Mathlib.Omega.{arith}
 use Rattle.lists.proofs.Laws.{over_none}

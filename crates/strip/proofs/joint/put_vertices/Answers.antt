@@ -18,4 +18,4 @@ returns c =
     let ys = side_vertices_of j Negative j.negative in
     let one = c.add_join_base_vertices.ensures in
     let two = c.add_join_base_vertices-2.ensures in
-    record { v_after = spelt_behind floats_of 5 (λ x. refl) xs ys _ _ _ _ (omega (arith, many, c.requires)) many one.0 two.0; src_after = sources_behind xs ys _ _ _ _ (omega (arith, many, c.requires)) many one.1 two.1 }
+    record { v_after = spelt_behind floats_of 5 (λ x. refl) xs ys _ _ _ _ (omega (arith, many, c.requires)) many one.v_after two.v_after; src_after = sources_behind xs ys _ _ _ _ (omega (arith, many, c.requires)) many one.src_after two.src_after }

@@ -17,10 +17,10 @@ pub returns-then-different : goal.returns-then-different
 unfolding flat triangle_of
 returns-then-different c =
     let whole = tri_some _ _ _ (sym c.different.ensures ∙ c.if-different.true) in
-    let both = rw whole (refl, c.put_triangle.ensures) in record { value = both.0; t_after = both.1 }
+    record { value = rw whole refl; t_after = rw whole c.put_triangle.ensures }
 
 pub returns : goal.returns
 unfolding flat
 returns c =
     let none = tri_none _ _ _ (sym c.different.ensures ∙ c.if-different.false) in
-    let both = rw none (refl, sym (over_none _)) in record { value = both.0; t_after = both.1 }
+    record { value = rw none refl; t_after = rw none (sym (over_none _)) }

@@ -12,7 +12,7 @@ room : (c : After-put_to-n) → let a = c.args in 3 * (c.put_to-n.result + lengt
 room c = omega (arith, c.put_to-n.ensures.value, simp length-append at c.requires.a_in_bounds)
 
 pub put_to-n-requires : goal.put_to-n-requires
-put_to-n-requires c = (omega (arith, simp length-append at c.requires.a_in_bounds), c.requires.b_value)
+put_to-n-requires c = record { b_in_bounds = omega (arith, simp length-append at c.requires.a_in_bounds); b_value = c.requires.b_value }
 
 pub overflow_mul-at : goal.overflow_mul-at
 overflow_mul-at c = omega (arith, room (goal.at.overflow_mul-at c).After-put_to-n)

@@ -13,8 +13,8 @@ put_both-requires c = omega (arith, rw (c.if-begun.true, c.requires.b_value c.if
 
 pub returns-then-begun : goal.returns-then-begun
 unfolding both_of
-returns-then-begun c = let both = rw (c.if-begun.true, c.requires.b_value c.if-begun.true) (refl, c.put_both.ensures) in record { value = both.0; t_after = both.1 }
+returns-then-begun c = record { value = rw (c.if-begun.true, c.requires.b_value c.if-begun.true) refl; t_after = rw (c.if-begun.true, c.requires.b_value c.if-begun.true) c.put_both.ensures }
 
 pub returns : goal.returns
 unfolding flat
-returns c = let both = rw (c.if-begun.false, between_same c.args.b) (refl, sym (over_none _)) in record { value = both.0; t_after = both.1 }
+returns c = record { value = rw (c.if-begun.false, between_same c.args.b) refl; t_after = rw (c.if-begun.false, between_same c.args.b) (sym (over_none _)) }

@@ -7,4 +7,4 @@ put_side-requires c = rw c.side_points.ensures c.requires
 pub returns : goal.returns
 returns c =
     let w = c.put_side.ensures in
-    record { v_after = rw (w.0, c.side_points.ensures); src_after = rw (w.1, c.side_points.ensures) }
+    record { v_after = rw (w.v_after, c.side_points.ensures); src_after = rw (w.src_after, c.side_points.ensures) }

@@ -6,4 +6,4 @@ pub returns : goal.returns
 unfolding base_vertex_of
 returns c =
     let w = c.put_vertex.ensures in
-    record { v_after = rw (w.0, c.source_of-source.ensures, c.plus-place.ensures, c.times.ensures, c.divided-normal.ensures, c.minus.ensures); src_after = rw (w.1, c.source_of-source.ensures, c.plus-place.ensures, c.times.ensures, c.divided-normal.ensures, c.minus.ensures) }
+    record { v_after = rw (w.v_after, c.source_of-source.ensures, c.plus-place.ensures, c.times.ensures, c.divided-normal.ensures, c.minus.ensures); src_after = rw (w.src_after, c.source_of-source.ensures, c.plus-place.ensures, c.times.ensures, c.divided-normal.ensures, c.minus.ensures) }

@@ -32,7 +32,7 @@ put_base_vertex-requires-in-Pair-2 c =
 
 pub returns-in-Single : goal.returns-in-Single
 unfolding side_vertices_of flat
-returns-in-Single c = let both = rw c.in-Single.is c.put_base_vertex.ensures in record { v_after = both.0; src_after = both.1 }
+returns-in-Single c = record { v_after = rw c.in-Single.is c.put_base_vertex.ensures.v_after; src_after = rw c.in-Single.is c.put_base_vertex.ensures.src_after }
 
 pub returns-in-Pair : goal.returns-in-Pair
 unfolding side_vertices_of flat
@@ -40,4 +40,4 @@ returns-in-Pair c =
     let two = ap side_count_of c.in-Pair.is in
     let one = c.put_base_vertex-in-Pair.ensures in
     let second = c.put_base_vertex-in-Pair-2.ensures in
-    let both = rw c.in-Pair.is (behind _ _ _ _ _ 5 refl (omega (arith, two, c.requires)) one.0 second.0, behind _ _ _ _ _ 1 refl (omega (arith, two, c.requires)) one.1 second.1) in record { v_after = both.0; src_after = both.1 }
+    record { v_after = rw c.in-Pair.is (behind _ _ _ _ _ 5 refl (omega (arith, two, c.requires)) one.v_after second.v_after); src_after = rw c.in-Pair.is (behind _ _ _ _ _ 1 refl (omega (arith, two, c.requires)) one.src_after second.src_after) }

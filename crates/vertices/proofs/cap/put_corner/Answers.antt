@@ -6,4 +6,4 @@ pub returns : goal.returns
 unfolding cap_vertex_of
 returns c =
     let w = c.put_vertex.ensures in
-    record { v_after = rw (w.0, c.source_of.ensures, c.plus-place.ensures, c.times.ensures); src_after = rw (w.1, c.source_of.ensures, c.plus-place.ensures, c.times.ensures) }
+    record { v_after = rw (w.v_after, c.source_of.ensures, c.plus-place.ensures, c.times.ensures); src_after = rw (w.src_after, c.source_of.ensures, c.plus-place.ensures, c.times.ensures) }

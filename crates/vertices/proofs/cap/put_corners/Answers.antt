@@ -13,4 +13,4 @@ returns c =
     let room = c.requires in
     let one = c.put_corner_pair.ensures in
     let two = c.put_corner_pair-2.ensures in
-    record { v_after = behind _ _ _ _ _ 10 refl (le_trans (lit≤ tt) room.0) one.0 two.0; src_after = behind _ _ _ _ _ 2 refl (le_trans (lit≤ tt) room.1) one.1 two.1 }
+    record { v_after = behind _ _ _ _ _ 10 refl (le_trans (lit≤ tt) room.0) one.v_after two.v_after; src_after = behind _ _ _ _ _ 2 refl (le_trans (lit≤ tt) room.1) one.src_after two.src_after }

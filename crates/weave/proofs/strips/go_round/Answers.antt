@@ -13,7 +13,7 @@ pub slice_bounds-pass_points-end : goal.slice_bounds-pass_points-end
 slice_bounds-pass_points-end c = let a = c.args in let two : 2 ≤ length a.p.now = omega (arith, c.requires.within.point) in sym (length-take-le 2 a.p.now two)
 
 pub pass_points-home-requires : goal.pass_points-home-requires
-pass_points-home-requires c = let a = c.args in let two : 2 ≤ length a.p.now = omega (arith, c.requires.within.point) in (omega (arith, length-take-le 2 a.p.now two, c.requires.within), rw (points_one a.p.now a.on.first.0 two) (home_has a.pass a.r _ _ _ c.requires.weave_fits))
+pass_points-home-requires c = let a = c.args in let two : 2 ≤ length a.p.now = omega (arith, c.requires.within.point) in record { p_bound = omega (arith, length-take-le 2 a.p.now two, c.requires.within); weave_fits = rw (points_one a.p.now a.on.first.0 two) (home_has a.pass a.r _ _ _ c.requires.weave_fits) }
 
 pub endpoint_after-requires : goal.endpoint_after-requires
 endpoint_after-requires c = omega (arith, c.requires.within)

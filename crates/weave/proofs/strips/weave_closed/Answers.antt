@@ -5,7 +5,7 @@ use Rattle.weave.proofs.strips.weave_closed.Goals as goal
 
 pub pass_points-w-requires : goal.pass_points-w-requires
 pass_points-w-requires c =
-    (c.requires.within.few, way_has c.args.pass c.args.r _ _ _ c.first_leg-leg.ensures (closed_start c.start.ensures c.unwoven.ensures) c.requires.weave_fits)
+    record { p_bound = c.requires.within.few; weave_fits = way_has c.args.pass c.args.r _ _ _ c.first_leg-leg.ensures (closed_start c.start.ensures c.unwoven.ensures) c.requires.weave_fits }
 
 pub go_round-requires : goal.go_round-requires
 go_round-requires c =

@@ -8,7 +8,7 @@ begin-begun-requires c = rw c.first_leg-leg.ensures c.requires.strip_fits
 
 pub pass_points-w-requires : goal.pass_points-w-requires
 pass_points-w-requires c =
-    (c.requires.within.few, pass_has c.args.pass c.args.r _ _ _ c.first_leg-leg.ensures c.args.at.vertex c.args.arcs c.begin-begun.ensures c.requires.weave_fits)
+    record { p_bound = c.requires.within.few; weave_fits = pass_has c.args.pass c.args.r _ _ _ c.first_leg-leg.ensures c.args.at.vertex c.args.arcs c.begin-begun.ensures c.requires.weave_fits }
 
 pub finish-requires : goal.finish-requires
 finish-requires c =

@@ -1,13 +1,12 @@
 -- `window::buffer::PointBuffer::count` meets its contract. That the slots are three is known of `self` as it is passed (`good`). Assumes nothing.
 use native.Mathlib.Omega.{arith}
-use lib.ListN.{length-map}
 use Rattle.window.proofs.Slots.{length_held}
 use Rattle.window.proofs.buffer.PointBuffer.count.Goals as goal
 
 pub returns-then-n-lt3 : goal.returns-then-n-lt3
 returns-then-n-lt3 c =
-    omega (arith, length_held c.args.self (simp length-map at c.well_formed.0.1.1.0.1.0.1))
+    omega (arith, length_held c.args.self c.well_formed.0.1.1.0.1.0.1)
 
 pub returns-else-n-lt3 : goal.returns-else-n-lt3
 returns-else-n-lt3 c =
-    omega (arith, length_held c.args.self (simp length-map at c.well_formed.0.1.1.0.1.0.1))
+    omega (arith, length_held c.args.self c.well_formed.0.1.1.0.1.0.1)

@@ -4,7 +4,7 @@ use Prim.Native.Nat.{◌<◌}
 use mathlib.Core.Path.{◌≡◌, refl, sym}
 use mathlib.Core.List.{[]}
 use native.Mathlib.Omega.{arith}
-use lib.ListN.{length, length-map}
+use lib.ListN.{length}
 use Rattle.window.specs.Answer.{replaced_answer_of}
 use Rattle.window.specs.Window.{items, last_replaced}
 use Rattle.window.proofs.Laws.{length_zero, replaced_answer_of_some}
@@ -22,7 +22,7 @@ pub returns : goal.returns
 returns c =
     let w = c.args.self in
     let some : 0 < length (items w) = omega arith in
-    let three = simp length-map at c.well_formed.0.1.1.0.1.0.1 in
+    let three = c.well_formed.0.1.1.0.1.0.1 in
     record {
       answer = sym (replaced_answer_of_some (items w) some);
       after = replaced_last w three c.args.e c.count-n.ensures c.slot-at.ensures (omega arith);

@@ -1,0 +1,8 @@
+-- `stl_read::words::word` meets its contract. Assumes nothing.
+use borrow.Author.Rules.{rules}
+use Rattle.stl.specs.Bytes.{word_at}
+use Rattle.stl_read.proofs.words.word.Goals as goal
+
+pub returns : goal.returns
+unfolding word_at
+returns c = search rules
