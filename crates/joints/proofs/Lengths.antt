@@ -7,7 +7,7 @@ use native.Mathlib.Omega.{arith}
 use lib.ListN.{length, length-append}
 use Rattle.endpoint.specs.declared.Endpoint.{Endpoint}
 use Rattle.options.specs.declared.Stroke.{Stroke}
-use Rattle.joints.specs.Leg.{first_leg_of}
+use Rattle.joints.specs.Leg.{first_leg_of, next_leg_of}
 use Rattle.joints.specs.Joint.{joints_from, joints_of}
 use Rattle.joints.specs.declared.leg.Leg.{Leg}
 
@@ -19,7 +19,7 @@ joints_from_lem : (closed : Bool) (o : Stroke) (leg : Leg) (ps : List Endpoint) 
 unfolding joints_from
 joints_from_lem true o leg [] = refl
 joints_from_lem false o leg [] = refl
-joints_from_lem closed o leg (p ∷ ps) = one_more _ _ _ (joints_from_lem closed o _ ps)
+joints_from_lem closed o leg (p ∷ ps) = one_more _ _ _ (joints_from_lem closed o (next_leg_of o.half_width leg p) ps)
 
 pub joints_length : (closed : Bool) (o : Stroke) (p q : Endpoint) (ks : List Endpoint) → length (joints_of closed o (p ∷ q ∷ ks)) ≡ length (p ∷ q ∷ ks)
 unfolding joints_of

@@ -41,15 +41,6 @@ loop-i-preserved c =
     let turn = visit_turn a.s.sure a.pass.stroke a.p.now a.s.first.0 l.i (omega (arith, c.loop-i-test.true)) l.w l.invariant.0 f in
     (turn.0, l.invariant.1 ∙ turn.1, search (rules, l.invariant.2), search (rules, l.invariant.3), search (rules, l.invariant.4))
 
-pub shape_of-v : goal.shape_of-v
-shape_of-v c = c.loop-i.invariant.2
-
-pub shape_of-src : goal.shape_of-src
-shape_of-src c = c.loop-i.invariant.3
-
-pub shape_of-t : goal.shape_of-t
-shape_of-t c = c.loop-i.invariant.4
-
 pub returns : goal.returns
 unfolding walked
 returns c =

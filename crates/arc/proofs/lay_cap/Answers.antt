@@ -20,7 +20,7 @@ lay_middle-first-requires c =
     let nv = c.next_vertex in
     let near = c.recorded_as-near in
     let mid : End = record { vertex = nv.result; normal = c.args.hub.ahead } in
-    (ap (λ (x : VertexId). x.0) nv.ensures, middle_fits c.args.k near.result c.args.hub c.args.a c.args.b mid c.args.level (rw (near.ensures, nv.ensures) c.requires))
+    record { vertex_value = ap (λ (x : VertexId). x.0) nv.ensures; fits = middle_fits c.args.k near.result c.args.hub c.args.a c.args.b mid c.args.level (rw (near.ensures, nv.ensures) c.requires) }
 
 pub lay_arc-second-requires : goal.lay_arc-second-requires
 lay_arc-second-requires c =

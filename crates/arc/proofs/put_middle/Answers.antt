@@ -13,4 +13,4 @@ pub returns : goal.returns
 unfolding arc_vertex_of
 returns c =
     let put = c.put_vertex.ensures in
-    record { v_after = rw (put.v_after, c.plus-place.ensures, c.times.ensures) refl; src_after = rw put.src_after refl; t_after = rw c.put_triangle.ensures refl }
+    record { v_after = rw (put.v_after, c.plus-place.ensures, c.times.ensures) refl; src_after = rw (put.src_after, c.plus-place.ensures, c.times.ensures) refl; t_after = rw c.put_triangle.ensures refl }

@@ -44,18 +44,6 @@ lay_end-requires c =
     let ie = rw c.next_vertex-next.ensures at c.after-e.ensures in
     record { id_lt_id_limit = c.requires.joint; weft_fits = end_fits c.args.o c.args.r c.args.w c.args.b is ie c.requires.fits c.lay_edge-edge.ensures c.lay_due-due.ensures c.lay_between-own.ensures c.lay_arcs-arcs.ensures }
 
-pub shape_of-v : goal.shape_of-v
-shape_of-v c =
-    omega (arith, c.lay_end.auto, c.lay_arcs-arcs.auto, c.lay_due-due.auto)
-
-pub shape_of-src : goal.shape_of-src
-shape_of-src c =
-    omega (arith, c.lay_end.auto, c.lay_arcs-arcs.auto, c.lay_due-due.auto)
-
-pub shape_of-t : goal.shape_of-t
-shape_of-t c =
-    omega (arith, c.lay_end.auto, c.lay_arcs-arcs.auto, c.lay_between-own.auto, c.lay_due-due.auto, c.lay_edge-edge.auto)
-
 pub returns : goal.returns
 returns c =
     let is = rw c.next_vertex-next.ensures at c.before-s.ensures in

@@ -28,14 +28,5 @@ loop-trail-preserved c =
     let l = c.loop-trail in
     (drawing_turn _ _ _ _ _ l.invariant.0 c.loop-trail-test.true c.draw_next-d.ensures _ c.next_dash-trail.ensures, search (rules, l.invariant.1), search (rules, l.invariant.2), search (rules, l.invariant.3))
 
-pub shape_of-v : goal.shape_of-v
-shape_of-v c = c.loop-trail.invariant.1
-
-pub shape_of-src : goal.shape_of-src
-shape_of-src c = c.loop-trail.invariant.2
-
-pub shape_of-t : goal.shape_of-t
-shape_of-t c = c.loop-trail.invariant.3
-
 pub returns : goal.returns
 returns c = drawing_all _ _ _ _ _ c.loop-trail.invariant.0 c.loop-trail-test.false

@@ -1,31 +1,11 @@
 -- `page::put_page` meets its contract. Assumes nothing.
 use borrow.Author.Tests.{eq-eqb, ne_eqb}
-use mathlib.Core.Path.{refl, sym}
 use native.Mathlib.Omega.{arith}
-use lib.Seq.{length-take-le}
 use Rattle.page.proofs.Laws.{read_within, long_refused, read_refused, read_stroked}
 use Rattle.page.proofs.put_page.Goals as goal
 
-pub put_refused-requires : goal.put_refused-requires
-put_refused-requires c = tt
-
 pub returns-then-text-gt-TEXT_ROOM : goal.returns-then-text-gt-TEXT_ROOM
 returns-then-text-gt-TEXT_ROOM c = record { puts_page = long_refused (omega (arith, c.if-text-gt-TEXT_ROOM.true)) c.put_refused.ensures.puts; upper_bound = c.put_refused.ensures.upper_bound }
-
-pub slice_bounds-read-end : goal.slice_bounds-read-end
-slice_bounds-read-end c = refl
-
-pub slice_bounds-read-end-2 : goal.slice_bounds-read-end-2
-slice_bounds-read-end-2 c = refl
-
-pub read-requires : goal.read-requires
-read-requires c = tt
-
-pub read_answer_of-a-requires : goal.read_answer_of-a-requires
-read_answer_of-a-requires c = tt
-
-pub put_refused-requires-then-a-ne0 : goal.put_refused-requires-then-a-ne0
-put_refused-requires-then-a-ne0 c = tt
 
 pub returns-then-a-ne0 : goal.returns-then-a-ne0
 returns-then-a-ne0 c =
@@ -37,22 +17,13 @@ pub slice_bounds-verbs-end : goal.slice_bounds-verbs-end
 slice_bounds-verbs-end c =
     let r = c.read in
     let w = read_within r.ensures c.read_answer_of-a.ensures c.if-a-ne0.false in
-    omega (arith, w.0, r.auto.1.0)
-
-pub slice_bounds-put_stroked-end : goal.slice_bounds-put_stroked-end
-slice_bounds-put_stroked-end c = sym (length-take-le c.read_answer_of-a.result.verbs _ (array-share-prefix-verbs c))
+    omega (arith, w.0, r.auto.verbs)
 
 pub slice_bounds-coords-end : goal.slice_bounds-coords-end
 slice_bounds-coords-end c =
     let r = c.read in
     let w = read_within r.ensures c.read_answer_of-a.ensures c.if-a-ne0.false in
-    omega (arith, w.1, r.auto.1.1.0)
-
-pub slice_bounds-put_stroked-end-2 : goal.slice_bounds-put_stroked-end-2
-slice_bounds-put_stroked-end-2 c = sym (length-take-le c.read_answer_of-a.result.coords _ (array-share-prefix-coords c))
-
-pub put_stroked-requires : goal.put_stroked-requires
-put_stroked-requires c = tt
+    omega (arith, w.1, r.auto.coords)
 
 pub returns : goal.returns
 returns c =

@@ -43,6 +43,7 @@ goes_right x [] ys g = g
 goes_right x (m ∷ xs) ys g = later (goes_right x xs ys g)
 
 goes_left : (x : ℕ) (xs ys : List Move) → Goes x xs → Goes x (xs ++ ys)
+goes_left x [] ys g = elim g [ ]
 goes_left x (to s y ∷ xs) ys (here e) = here e
 goes_left x (m ∷ xs) ys (later g) = later (goes_left x xs ys g)
 
@@ -70,6 +71,7 @@ goes_moves base x (j ∷ js) f g = go (dec_lt x (base + joint_count j)) (goes_mo
 -- where a move goes, its triangle names
 names : (x n p : ℕ) (ms : List Move) → Goes x ms → Names x (ladder n p ms)
 unfolding ladder
+names x n p [] g = elim g [ ]
 names x n p (to s y ∷ ms) (here e) = facts.here {t = record { a = n; b = p; c = y }} (rw e (in_c_lem n p x))
 names x n p (to s y ∷ ms) (later g) = there (names x (cond s n y) (cond s y p) ms g)
 

@@ -11,7 +11,7 @@ use Rattle.along.proofs.strips.go_round.Goals.{Start}
 use Rattle.along.proofs.strips.go_round.Goals as goal
 
 two : (s : Start) → 2 ≤ length s.args.p.now
-two s = omega (arith, s.requires.0.point)
+two s = omega (arith, s.requires.within.point)
 
 pub slice_bounds-pass_points-end : goal.slice_bounds-pass_points-end
 slice_bounds-pass_points-end c = sym (length-take-le 2 c.args.p.now (two (goal.at.slice_bounds-pass_points-end c).Start))
@@ -39,27 +39,15 @@ slice_bounds-pass_points-count c = omega (arith, c.requires.within)
 pub slice_bounds-pass_points-start : goal.slice_bounds-pass_points-start
 slice_bounds-pass_points-start c = omega (arith, c.requires.within)
 
-pub slice_bounds-pass_points-end : goal.slice_bounds-pass_points-end
-slice_bounds-pass_points-end c = omega (arith, c.requires.within)
+pub slice_bounds-pass_points-end-2 : goal.slice_bounds-pass_points-end-2
+slice_bounds-pass_points-end-2 c = omega (arith, c.requires.within)
 
 pub pass_points-end-requires : goal.pass_points-end-requires
 pass_points-end-requires c =
     let a = c.args in
     let few = mid_len (2 * a.on.from) (2 * a.on.from + 2) a.p.now c.requires.within.point in
     let has = on_has _ _ _ _ c.requires.strip_fits (rw (points_one a.p.now a.on.first.0 (two (goal.at.pass_points-end-requires c).Start)) at c.pass_points-home.ensures) in
-    rw c.endpoint_after.ensures (omega (arith, few, c.requires.within), rw (points_one_at a.p.now a.on.first.0 a.on.from c.requires.within.point) has)
-
-pub shape_of-v : goal.shape_of-v
-shape_of-v c =
-    omega (arith, c.pass_points-home.auto, c.pass_points-end.auto)
-
-pub shape_of-src : goal.shape_of-src
-shape_of-src c =
-    omega (arith, c.pass_points-home.auto, c.pass_points-end.auto)
-
-pub shape_of-t : goal.shape_of-t
-shape_of-t c =
-    omega (arith, c.pass_points-home.auto, c.pass_points-end.auto)
+    record { p_bound = rw c.endpoint_after.ensures (omega (arith, few, c.requires.within)); strip_fits = rw (c.endpoint_after.ensures, points_one_at a.p.now a.on.first.0 a.on.from c.requires.within.point) has }
 
 pub returns : goal.returns
 returns c =

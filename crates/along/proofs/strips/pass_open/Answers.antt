@@ -15,18 +15,6 @@ pub finish-requires : goal.finish-requires
 finish-requires c =
     finish_has c.args.pass.stroke _ _ _ c.first_leg-leg.ensures c.requires.strip_fits c.begin-begun.ensures c.pass_points-w.ensures
 
-pub shape_of-v : goal.shape_of-v
-shape_of-v c =
-    omega (arith, c.finish.auto, c.pass_points-w.auto, c.begin-begun.auto)
-
-pub shape_of-src : goal.shape_of-src
-shape_of-src c =
-    omega (arith, c.finish.auto, c.pass_points-w.auto, c.begin-begun.auto)
-
-pub shape_of-t : goal.shape_of-t
-shape_of-t c =
-    omega (arith, c.finish.auto, c.pass_points-w.auto, c.begin-begun.auto)
-
 pub returns : goal.returns
 returns c =
     open_puts c.args.pass.stroke _ _ _ c.first_leg-leg.ensures c.requires.strip_fits c.begin-begun.ensures c.pass_points-w.ensures c.finish.ensures

@@ -32,15 +32,6 @@ pub finish-requires : goal.finish-requires
 finish-requires c =
     end_has _ _ _ _ _ c.loop-n.invariant.0 c.loop-n-test.false (rw c.next_point-n.ensures.points at c.requires.weave_fits)
 
-pub shape_of-v : goal.shape_of-v
-shape_of-v c = search (rules, c.loop-n.invariant.1)
-
-pub shape_of-src : goal.shape_of-src
-shape_of-src c = search (rules, c.loop-n.invariant.2)
-
-pub shape_of-t : goal.shape_of-t
-shape_of-t c = search (rules, c.loop-n.invariant.3)
-
 pub returns : goal.returns
 returns c =
     end _ _ _ _ _ c.loop-n.invariant.0 c.loop-n-test.false _ c.next_point-n.ensures c.finish.ensures

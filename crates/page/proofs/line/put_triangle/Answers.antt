@@ -4,24 +4,6 @@ use Rattle.lines.proofs.Behind.{puts_then}
 use Rattle.lines.proofs.Placing.{decimal_few}
 use Rattle.page.proofs.line.put_triangle.Goals as goal
 
-pub decimal_at-with_a-requires : goal.decimal_at-with_a-requires
-decimal_at-with_a-requires c = omega arith
-
-pub byte_at-a_spaced-requires : goal.byte_at-a_spaced-requires
-byte_at-a_spaced-requires c = omega arith
-
-pub decimal_at-with_b-requires : goal.decimal_at-with_b-requires
-decimal_at-with_b-requires c = omega arith
-
-pub byte_at-b_spaced-requires : goal.byte_at-b_spaced-requires
-byte_at-b_spaced-requires c = omega arith
-
-pub decimal_at-with_c-requires : goal.decimal_at-with_c-requires
-decimal_at-with_c-requires c = omega arith
-
-pub byte_at-requires : goal.byte_at-requires
-byte_at-requires c = omega arith
-
 pub returns : goal.returns
 returns c =
     let a = decimal_few c.args.a (omega arith) in

@@ -4,15 +4,6 @@ use Rattle.lines.proofs.Behind.{puts_then}
 use Rattle.page.specs.Page.{mesh_page}
 use Rattle.page.proofs.mesh_lines.put_mesh.Goals as goal
 
-pub put_count-v_counted-requires : goal.put_count-v_counted-requires
-put_count-v_counted-requires c = omega arith
-
-pub put_vertices-drawn-requires : goal.put_vertices-drawn-requires
-put_vertices-drawn-requires c = omega arith
-
-pub put_count-t_counted-requires : goal.put_count-t_counted-requires
-put_count-t_counted-requires c = omega arith
-
 pub put_triangles-requires : goal.put_triangles-requires
 put_triangles-requires c = record { n_bound = omega arith; n_in_bounds = omega arith; are_short = c.requires.are_short }
 

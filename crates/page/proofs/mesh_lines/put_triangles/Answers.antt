@@ -1,5 +1,5 @@
 -- `page::mesh_lines::put_triangles` meets its contract. The loop's invariant is `Listing`. Assumes nothing.
-use Prim.Native.Nat.{◌+◌, ◌-◌, ◌*◌}
+use Prim.Native.Nat.{◌+◌, ◌*◌}
 use native.Mathlib.Omega.{arith}
 use Rattle.page.proofs.Listing.{listing_starts, listing_goes, listing_ends}
 use Rattle.page.proofs.mesh_lines.put_triangles.Goals as goal
@@ -7,50 +7,11 @@ use Rattle.page.proofs.mesh_lines.put_triangles.Goals as goal
 pub loop-i-init : goal.loop-i-init
 loop-i-init c = listing_starts
 
-pub overflow_mul-i : goal.overflow_mul-i
-overflow_mul-i c = omega arith
-
-pub offset_bounds-numbers-i : goal.offset_bounds-numbers-i
-offset_bounds-numbers-i c = omega arith
-
-pub bounds-numbers-i : goal.bounds-numbers-i
-bounds-numbers-i c = omega arith
-
-pub overflow_mul-i-in-loop-i : goal.overflow_mul-i-in-loop-i
-overflow_mul-i-in-loop-i c = omega arith
-
-pub overflow_add-i : goal.overflow_add-i
-overflow_add-i c = omega arith
-
-pub offset_bounds-numbers-i-in-loop-i : goal.offset_bounds-numbers-i-in-loop-i
-offset_bounds-numbers-i-in-loop-i c = omega arith
-
-pub bounds-numbers-i-in-loop-i : goal.bounds-numbers-i-in-loop-i
-bounds-numbers-i-in-loop-i c = omega arith
-
-pub overflow_mul-i-in-loop-i-2 : goal.overflow_mul-i-in-loop-i-2
-overflow_mul-i-in-loop-i-2 c = omega arith
-
-pub overflow_add-i-in-loop-i : goal.overflow_add-i-in-loop-i
-overflow_add-i-in-loop-i c = omega arith
-
-pub offset_bounds-numbers-i-in-loop-i-2 : goal.offset_bounds-numbers-i-in-loop-i-2
-offset_bounds-numbers-i-in-loop-i-2 c = omega arith
-
-pub bounds-numbers-i-in-loop-i-2 : goal.bounds-numbers-i-in-loop-i-2
-bounds-numbers-i-in-loop-i-2 c = omega arith
-
 pub put_triangle-next-requires : goal.put_triangle-next-requires
 put_triangle-next-requires c =
     let i = c.loop-i.i in
     let short = c.requires.are_short in
     record { at_bound = omega arith; a_bound = (short (3 * i), short (3 * i + 1), short (3 * i + 2)) }
-
-pub overflow_add-i-in-loop-i-2 : goal.overflow_add-i-in-loop-i-2
-overflow_add-i-in-loop-i-2 c = omega arith
-
-pub loop-i-smaller : goal.loop-i-smaller
-loop-i-smaller c = omega arith
 
 pub loop-i-preserved : goal.loop-i-preserved
 loop-i-preserved c = listing_goes c.loop-i.invariant (omega arith) c.put_triangle-next.ensures.puts c.put_triangle-next.ensures.upper_bound

@@ -1,5 +1,5 @@
 -- `radio_words::fields::axis_at` meets its contract. Assumes nothing.
-use borrow.Author.Tests.{ne_eqb}
+use Rattle.std.proofs.Common.{rules}
 use Rattle.radio_words.specs.Fields.{axis_at}
 use Rattle.radio_words.proofs.fields.axis_at.Goals as goal
 
@@ -13,4 +13,4 @@ returns-in-1 c = rw c.in-1.is
 
 pub returns-in_default : goal.returns-in_default
 unfolding axis_at
-returns-in_default c = rw (ne_eqb _ 0 c.in-0.rest.0.1, ne_eqb _ 1 c.in-0.rest.1)
+returns-in_default c = search rules

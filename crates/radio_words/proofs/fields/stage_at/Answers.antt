@@ -1,5 +1,5 @@
 -- `radio_words::fields::stage_at` meets its contract. Assumes nothing.
-use borrow.Author.Tests.{ne_eqb}
+use Rattle.std.proofs.Common.{rules}
 use Rattle.radio_words.specs.Fields.{stage_at}
 use Rattle.radio_words.proofs.fields.stage_at.Goals as goal
 
@@ -37,4 +37,4 @@ returns-in-7 c = rw c.in-7.is
 
 pub returns-in_default : goal.returns-in_default
 unfolding stage_at
-returns-in_default c = rw (ne_eqb _ 0 c.in-0.rest.0.0.0.0.0.0.0.1, ne_eqb _ 1 c.in-0.rest.0.0.0.0.0.0.1, ne_eqb _ 2 c.in-0.rest.0.0.0.0.0.1, ne_eqb _ 3 c.in-0.rest.0.0.0.0.1, ne_eqb _ 4 c.in-0.rest.0.0.0.1, ne_eqb _ 5 c.in-0.rest.0.0.1, ne_eqb _ 6 c.in-0.rest.0.1, ne_eqb _ 7 c.in-0.rest.1)
+returns-in_default c = search rules

@@ -37,14 +37,5 @@ loop-i-preserved c =
     let inv = c.loop-i.invariant in
     (rw (c.moved-g.ensures, c.noted-s.ensures) (seeing_turn inv.0 c.loop-i-test.true c.count_verb-place.ensures), search (rules, inv.1), search (rules, inv.2), search (rules, inv.3))
 
-pub shape_of-v : goal.shape_of-v
-shape_of-v c = c.loop-i.invariant.1
-
-pub shape_of-src : goal.shape_of-src
-shape_of-src c = c.loop-i.invariant.2
-
-pub shape_of-t : goal.shape_of-t
-shape_of-t c = c.loop-i.invariant.3
-
 pub returns : goal.returns
 returns c = seeing_all c.loop-i.invariant.0 c.loop-i-test.false

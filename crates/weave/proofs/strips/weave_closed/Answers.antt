@@ -11,15 +11,6 @@ pub go_round-requires : goal.go_round-requires
 go_round-requires c =
     record { within = c.requires.within; weave_fits = round_has c.args.pass c.args.r _ _ _ c.first_leg-leg.ensures (closed_start c.start.ensures c.unwoven.ensures) c.requires.weave_fits c.pass_points-w.ensures }
 
-pub shape_of-v : goal.shape_of-v
-shape_of-v c = omega (arith, c.go_round.auto, c.pass_points-w.auto)
-
-pub shape_of-src : goal.shape_of-src
-shape_of-src c = omega (arith, c.go_round.auto, c.pass_points-w.auto)
-
-pub shape_of-t : goal.shape_of-t
-shape_of-t c = omega (arith, c.go_round.auto, c.pass_points-w.auto)
-
 pub returns : goal.returns
 returns c =
     closed_puts c.args.pass c.args.r _ _ _ c.first_leg-leg.ensures (closed_start c.start.ensures c.unwoven.ensures) c.requires.weave_fits c.pass_points-w.ensures c.go_round.ensures

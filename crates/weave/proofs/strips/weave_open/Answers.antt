@@ -14,15 +14,6 @@ pub finish-requires : goal.finish-requires
 finish-requires c =
     finish_has c.args.pass c.args.r _ _ _ c.first_leg-leg.ensures c.args.at.vertex c.args.arcs c.begin-begun.ensures c.requires.weave_fits c.pass_points-w.ensures
 
-pub shape_of-v : goal.shape_of-v
-shape_of-v c = omega (arith, c.finish.auto, c.pass_points-w.auto)
-
-pub shape_of-src : goal.shape_of-src
-shape_of-src c = omega (arith, c.finish.auto, c.pass_points-w.auto)
-
-pub shape_of-t : goal.shape_of-t
-shape_of-t c = omega (arith, c.finish.auto, c.pass_points-w.auto)
-
 pub returns : goal.returns
 returns c =
     open_puts c.args.pass c.args.r _ _ _ c.first_leg-leg.ensures c.args.at.vertex c.args.arcs c.begin-begun.ensures c.requires.weave_fits c.pass_points-w.ensures c.finish.ensures
