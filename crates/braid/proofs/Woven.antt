@@ -55,6 +55,7 @@ woven_own lo base hi i seen (arc k a b ∷ ps) o r h f g =
 -- what the strip names, the run names
 strip_named : (x i : ℕ) (ps : List Item) → Names x (strip ps) → Names x (woven i ps)
 unfolding woven strip
+strip_named x i [] n = elim n [ ]
 strip_named x i (one t ∷ ps) (here e) = here e
 strip_named x i (one t ∷ ps) (there n) = there (strip_named x i ps n)
 strip_named x i (arc k a b ∷ ps) n = names_right x (arc_triangles k i a b) (woven (i + (2 ^ k - 1)) ps) (strip_named x (i + (2 ^ k - 1)) ps n)
@@ -99,6 +100,7 @@ woven_attached lo base i t seen full (arc k a b ∷ ps) l s o r c h f =
 
 -- the whole run: nothing can come before the strip's first triangle
 has_some : (u : Tri) (ts : List Tri) → Has u ts → 1 ≤ length ts
+has_some u [] h = elim h [ ]
 has_some u (t ∷ ts) (first e) = omega arith
 has_some u (t ∷ ts) (later h) = omega arith
 

@@ -1,5 +1,5 @@
 -- `arc::lay_arc` meets its contract. At each call `split` says that the arc is its middle and two halves. Assumes nothing.
-use mathlib.Core.Path.{◌≡◌, ap}
+use mathlib.Core.Path.{ap}
 use Prim.Native.Nat.{◌-◌}
 use native.Mathlib.Omega.{arith}
 use Rattle.endpoint.specs.declared.VertexId.{VertexId}

@@ -4,12 +4,6 @@ use native.Mathlib.Omega.{arith}
 use Rattle.endpoint.specs.declared.VertexId.{VertexId}
 use Rattle.arc.specs.declared.End.{End}
 use Rattle.arc.proofs.Writing.{middle_fits, first_fits, second_fits, fan_passes}
-use Rattle.arc.proofs.lay_cap.Reads as reads
-use Rattle.arc.proofs.lay_cap.Lts as lts
-use Rattle.arc.proofs.lay_arc.Reads as lay-arc-reads
-use Rattle.arc.proofs.lay_middle.Reads as lay-middle-reads
-use Rattle.arc.proofs.recorded_as.Reads as recorded-as-reads
-use Rattle.pieces.proofs.next_vertex.Reads as next-vertex-reads
 use Rattle.arc.proofs.lay_cap.Goals as goal
 
 pub next_vertex-requires : goal.next_vertex-requires

@@ -3,9 +3,6 @@ use mathlib.Core.Path.{refl}
 use native.Mathlib.Omega.{arith}
 use lib.ListN.{length-take, length-drop}
 use Rattle.arc.proofs.Writing.{middle_passes}
-use Rattle.arc.proofs.lay_middle.Reads as reads
-use Rattle.arc.proofs.lay_middle.Lts as lts
-use Rattle.arc.proofs.put_middle.Reads as put-middle-reads
 use Rattle.arc.proofs.lay_middle.Goals as goal
 
 pub overflow_mul-at : goal.overflow_mul-at

@@ -1,12 +1,6 @@
 -- `arc::put_middle` meets its contract. Assumes nothing.
 use mathlib.Core.Path.{refl}
 use Rattle.arc.specs.Arc.{arc_vertex_of}
-use Rattle.arc.proofs.put_middle.Reads as reads
-use Rattle.arc.proofs.put_middle.Lts as lts
-use Rattle.plane.proofs.vector.plus.Reads as plus-reads
-use Rattle.plane.proofs.vector.times.Reads as times-reads
-use Rattle.vertices.proofs.list.put_triangle.Reads as put-triangle-reads
-use Rattle.vertices.proofs.list.put_vertex.Reads as put-vertex-reads
 use Rattle.arc.proofs.put_middle.Goals as goal
 
 pub returns : goal.returns

@@ -1,5 +1,4 @@
 -- `cuts::count_cuts` meets its contract. The plan: the loop's invariant is Passing's `Going`, from its start by one verb a turn to the end of the verbs. Assumes nothing.
-use Prim.Native.Nat.{◌-◌}
 use mathlib.Core.Path.{◌≡◌}
 use native.Mathlib.Omega.{arith}
 use Rattle.dashes.specs.Pattern.{worn_of, first_cut}

@@ -1,5 +1,4 @@
 -- `kept::kept_end` meets its contract. Assumes nothing.
-use Prim.Native.Nat.{◌-◌}
 use native.Mathlib.Omega.{arith}
 use Rattle.kept.proofs.Looks.{ending_none, ending_turn, ending_all}
 use Rattle.kept.proofs.kept_end.Goals as goal

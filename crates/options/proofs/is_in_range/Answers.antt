@@ -1,5 +1,5 @@
 -- `options::is_in_range` meets its contract. Assumes nothing.
-use borrow.Author.Tests.{not-true, not-false, le-leb, lt-leb}
+use borrow.Author.Tests.{le-leb, lt-leb}
 use Rattle.options.specs.Options.{in_range}
 use Rattle.options.proofs.is_in_range.Goals as goal
 

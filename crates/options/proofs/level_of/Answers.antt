@@ -1,5 +1,5 @@
 -- `options::level_of` meets its contract. Assumes nothing.
-use borrow.Author.Tests.{not-true, not-false, lt-ltb, le-ltb}
+use borrow.Author.Tests.{lt-ltb, le-ltb}
 use Rattle.options.specs.Options.{level_of}
 use Rattle.options.proofs.level_of.Goals as goal
 

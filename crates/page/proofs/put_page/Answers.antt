@@ -1,6 +1,8 @@
 -- `page::put_page` meets its contract. Assumes nothing.
 use borrow.Author.Tests.{eq-eqb, ne_eqb}
+use mathlib.Core.Path.{sym}
 use native.Mathlib.Omega.{arith}
+use lib.Seq.{length-take-le}
 use Rattle.page.proofs.Laws.{read_within, long_refused, read_refused, read_stroked}
 use Rattle.page.proofs.put_page.Goals as goal
 
@@ -19,11 +21,23 @@ slice_bounds-verbs-end c =
     let w = read_within r.ensures c.read_answer_of-a.ensures c.if-a-ne0.false in
     omega (arith, w.0, r.auto.verbs)
 
+pub slice_bounds-put_stroked-end : goal.slice_bounds-put_stroked-end
+slice_bounds-put_stroked-end c =
+    let r = c.read in
+    let w = read_within r.ensures c.read_answer_of-a.ensures c.if-a-ne0.false in
+    sym (length-take-le c.read_answer_of-a.result.verbs r.new.verbs (omega (arith, w.0, r.auto.verbs)))
+
 pub slice_bounds-coords-end : goal.slice_bounds-coords-end
 slice_bounds-coords-end c =
     let r = c.read in
     let w = read_within r.ensures c.read_answer_of-a.ensures c.if-a-ne0.false in
     omega (arith, w.1, r.auto.coords)
+
+pub slice_bounds-put_stroked-end-2 : goal.slice_bounds-put_stroked-end-2
+slice_bounds-put_stroked-end-2 c =
+    let r = c.read in
+    let w = read_within r.ensures c.read_answer_of-a.ensures c.if-a-ne0.false in
+    sym (length-take-le c.read_answer_of-a.result.coords r.new.coords (omega (arith, w.1, r.auto.coords)))
 
 pub returns : goal.returns
 returns c =

@@ -1,5 +1,4 @@
 -- `cuts::run_cuts::count_points` meets its contract. The plan: the loop's invariant is Counting's `Counting`, from its start by one point a turn to the end of the points. Assumes nothing.
-use Prim.Native.Nat.{◌-◌}
 use native.Mathlib.Omega.{arith}
 use Rattle.cuts.proofs.Counting.{counting_none, counting_one, counting_all}
 use Rattle.cuts.proofs.run_cuts.count_points.Goals as goal

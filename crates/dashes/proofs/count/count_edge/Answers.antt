@@ -1,6 +1,5 @@
 -- `dashes::count::count_edge` meets its contract. The invariant: the cuts passed so far and those still to come on the edge are all its cuts, and what is
 -- behind them is the same spot; a cut that does not fall, or the limit, ends both. Assumes nothing.
-use Prim.Native.Nat.{◌-◌}
 use mathlib.Core.Path.{sym, ◌∙◌}
 use native.Mathlib.Omega.{arith}
 use Rattle.dashes.proofs.Looping.{counting_none, counting_one, counting_stop, counting_all, counted}

@@ -1,5 +1,4 @@
 -- `dashes::pattern::are_lengths` meets its contract. The invariant: the whole list is in range exactly where the lengths from i on are. Assumes nothing.
-use Prim.Native.Nat.{◌-◌}
 use mathlib.Core.Path.{sym, ◌∙◌}
 use Rattle.dashes.proofs.Looping.{tested_none, tested_one, tested_stop, tested_all}
 use Rattle.dashes.proofs.pattern.are_lengths.Goals as goal

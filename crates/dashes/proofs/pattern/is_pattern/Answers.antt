@@ -1,5 +1,5 @@
 -- `dashes::pattern::is_pattern` meets its contract. Assumes nothing.
-use borrow.Author.Tests.{not-true, not-false, le-leb, lt-leb}
+use borrow.Author.Tests.{le-leb, lt-leb}
 use Rattle.dashes.specs.Pattern.{pattern_in}
 use Rattle.dashes.proofs.pattern.is_pattern.Goals as goal
 

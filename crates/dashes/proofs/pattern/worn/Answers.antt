@@ -1,6 +1,5 @@
 -- `dashes::pattern::worn` meets its contract. The invariant: wearing the offset down from the first length comes to the same as wearing what remains
 -- down from length i. Assumes nothing.
-use Prim.Native.Nat.{◌-◌}
 use Rattle.dashes.proofs.Looping.{wearing_none, wearing_one, wearing_stop, wearing_all}
 use Rattle.dashes.proofs.pattern.worn.Goals as goal
 

@@ -1,6 +1,5 @@
 -- `path::coordinates::are_in_limits` meets its contract. Assumes nothing.
 -- where both hold, each does
-use Prim.Native.Nat.{◌-◌}
 use mathlib.Core.Bool.{Bool, true, false, ◌&&◌, false≢true}
 use mathlib.Core.Path.{◌≡◌, refl, sym, ◌∙◌}
 use native.Mathlib.Omega.{arith}

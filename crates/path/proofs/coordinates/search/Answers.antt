@@ -1,5 +1,4 @@
 -- `path::coordinates::search` meets its contract. Assumes nothing.
-use Prim.Native.Nat.{◌-◌}
 use mathlib.Core.Path.{sym, ◌∙◌}
 use Rattle.path.proofs.Bounding.{within_none, within_one, within_stop, within_all}
 use Rattle.path.proofs.coordinates.search.Goals as goal
