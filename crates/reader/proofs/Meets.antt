@@ -20,7 +20,6 @@ use Rattle.form.proofs.Taken.{never}
 use Rattle.form.proofs.Parse.{taken_form}
 use Rattle.form.proofs.Place.{wrong_at, form_taken}
 use Rattle.form.proofs.Unique.{wrong_unique}
-use Rattle.lists.specs.Over.{over}
 use Rattle.lists.proofs.Laws.{put_start}
 use Rattle.values.specs.declared.events.Event.{Event}
 use Rattle.values.specs.Meaning.{events_of}

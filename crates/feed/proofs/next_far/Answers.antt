@@ -1,6 +1,6 @@
 -- `feed::next_far` meets its contract. The plan: as long as no point was far, what is kept behind a is what is kept of the points from j on; a point that is near
 -- (`told`) leaves that so, and one that is not ends the look. Assumes nothing.
-use Prim.Native.Nat.{◌+◌, ◌-◌, ◌*◌, ◌≤◌}
+use Prim.Native.Nat.{◌+◌, ◌*◌, ◌≤◌}
 use mathlib.Core.Path.{◌≡◌, refl, sym, ◌∙◌}
 use native.Mathlib.Omega.{arith}
 use lib.ListN.{length}

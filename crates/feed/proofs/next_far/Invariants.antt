@@ -2,7 +2,7 @@
 use Prim.Native.Nat.{◌-◌, ◌/◌, ◌≤◌}
 use mathlib.Core.Path.{◌≡◌}
 use lib.ListN.{length, drop}
-use Rattle.kept.specs.Kept.{near, kept_behind}
+use Rattle.kept.specs.Kept.{kept_behind}
 use Rattle.kept.specs.Points.{endpoints_of}
 use Rattle.feed.proofs.next_far.Given as goal
 

@@ -1,6 +1,6 @@
 -- `weave::pass_points` meets its contract. The plan: of the joints that the points bring, the rest is to come (`Midway`), and the way to the end is the same; one turn is `Turns`, and behind the last point nothing is to come. Assumes nothing.
 use borrow.Author.Rules.{rules}
-use Prim.Native.Nat.{◌-◌, ◌≤◌}
+use Prim.Native.Nat.{◌≤◌}
 use mathlib.Core.Path.{◌≡◌, refl, sym, ◌∙◌}
 use mathlib.Core.List.{[]}
 use native.Mathlib.Omega.{arith}

@@ -1,5 +1,4 @@
 -- `along::strips::pass_open` meets its contract. Assumes nothing.
-use native.Mathlib.Omega.{arith}
 use Rattle.along.proofs.Writing.{begin_has, pass_has, finish_has, open_puts}
 use Rattle.along.proofs.strips.pass_open.Goals as goal
 

@@ -1,5 +1,4 @@
 -- `radio_words::codec::begins_with` meets its contract. Assumes nothing.
-use Prim.Native.Nat.{◌-◌}
 use mathlib.Core.Path.{refl}
 use native.Mathlib.Omega.{arith}
 use Rattle.radio_words.proofs.Lists.{same_all, same_short, same_not, same_next}

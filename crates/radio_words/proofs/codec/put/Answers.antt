@@ -1,5 +1,4 @@
 -- `radio_words::codec::put` meets its contract. Assumes nothing.
-use Prim.Native.Nat.{◌-◌}
 use mathlib.Core.Path.{sym}
 use native.Mathlib.Omega.{arith}
 use Rattle.lists.proofs.Laws.{over_none}

@@ -1,5 +1,4 @@
 -- `reader::pass::pass` meets its contract. Assumes nothing.
-use Prim.Native.Nat.{◌-◌}
 use mathlib.Core.Path.{sym, ◌∙◌}
 use native.Mathlib.Omega.{arith}
 use Rattle.reader.proofs.Passing.{passes_none, passes_turn, passes_over, passes_all}

@@ -1,7 +1,11 @@
 -- `run::alone::draw_alone` meets its contract. Assumes nothing.
+use native.Mathlib.Omega.{arith}
 use mathlib.Core.Path.{sym, ◌∙◌}
-use Rattle.run.proofs.Whole.{nothing_drawn, cap_fits, cap_drawn}
+use Rattle.run.proofs.Whole.{cap_some, nothing_drawn, cap_fits, cap_drawn}
 use Rattle.run.proofs.alone.draw_alone.Goals as goal
+
+pub overflow_sub-result : goal.overflow_sub-result
+overflow_sub-result c = omega (arith, c.cap_size-n.ensures, cap_some c.args.pass.stroke)
 
 pub lay_empty_cap-requires : goal.lay_empty_cap-requires
 lay_empty_cap-requires c =

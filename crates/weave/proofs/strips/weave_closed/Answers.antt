@@ -1,5 +1,4 @@
 -- `weave::strips::weave_closed` meets its contract. Assumes nothing.
-use native.Mathlib.Omega.{arith}
 use Rattle.weave.proofs.Writing.{closed_start, way_has, round_has, closed_puts}
 use Rattle.weave.proofs.strips.weave_closed.Goals as goal
 

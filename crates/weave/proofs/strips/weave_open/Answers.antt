@@ -1,5 +1,4 @@
 -- `weave::strips::weave_open` meets its contract. Assumes nothing.
-use native.Mathlib.Omega.{arith}
 use Rattle.weave.proofs.Writing.{pass_has, finish_has, open_puts}
 use Rattle.weave.proofs.strips.weave_open.Goals as goal
 
