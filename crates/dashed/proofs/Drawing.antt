@@ -12,7 +12,7 @@ use Rattle.endpoint.specs.Endpoint.{id_limit, vertex_after}
 use Rattle.endpoint.specs.declared.Endpoint.{Endpoint}
 use Rattle.endpoint.specs.declared.VertexId.{VertexId}
 use Rattle.lists.specs.All.{All}
-use Rattle.pieces.specs.Piece.{Piece, none, joined, behind, from, next_vertex, anew, Lists, lent, Fits, Passes}
+use Rattle.pieces.specs.Piece.{Piece, none, joined, from, next_vertex, anew, Lists, lent, Fits, Passes}
 use Rattle.pieces.specs.declared.Place.{Place}
 use Rattle.pieces.proofs.Pieces.{joined_none, puts_none, puts_both, fits_front, fits_back, reached, parts_fit, parts_put}
 use Rattle.options.specs.declared.Stroke.{Stroke}

@@ -1,5 +1,4 @@
 -- `along::pass_kept` meets its contract. Assumes nothing.
--- from a call back to the start
 use mathlib.Core.Path.{◌≡◌, ap}
 use Rattle.endpoint.specs.Endpoint.{side_count_of}
 use Rattle.joints.specs.Joint.{joint_of}

@@ -1,5 +1,4 @@
 -- `dashed::draw_next` meets its contract. Assumes nothing.
--- from the last call before the dash is drawn back to the start
 use Prim.Native.Nat.{◌≤◌}
 use native.Mathlib.Omega.{arith}
 use lib.ListN.{length}

@@ -1,11 +1,7 @@
 -- `runs::draw_ended` meets its contract. Assumes nothing.
--- from the last call before the run is drawn back to the start
-use mathlib.Core.Path.{◌≡◌}
 use Prim.Native.Nat.{◌+◌, ◌≤◌, ◌<◌}
-use mathlib.Core.Bool.{false}
 use native.Mathlib.Omega.{arith}
 use lib.ListN.{length, length-take, length-drop}
-use Rattle.path.specs.Verbs.{names}
 use Rattle.endpoint.specs.Endpoint.{id_limit}
 use Rattle.pieces.specs.Piece.{next_vertex}
 use Rattle.pieces.proofs.Pieces.{parts_inside}
@@ -14,12 +10,9 @@ use Rattle.runs.proofs.Drawing.{part_fits, part_few, part_puts, part_cuts}
 use Rattle.runs.proofs.draw_ended.Goals.{After-draw_cut-run, After-next_vertex}
 use Rattle.runs.proofs.draw_ended.Goals as goal
 
-ends : (c : After-next_vertex) → names c.args.verb ≡ false
-ends c = c.requires.verb_value
-
 few : (c : After-draw_cut-run) → let k = c.args.g.place in (next_vertex k + c.draw_cut-run.result.vertices < id_limit) × (k.triangles + c.draw_cut-run.result.triangles < id_limit)
 few c =
-    part_few _ _ c.args.g c.args.verb _ (ends c) c.place_of-a.ensures c.place_of-b.ensures c.place_of-c.ensures c.next_vertex.ensures (points_part _ _ _) c.requires.fits c.draw_cut-run.ensures
+    part_few _ _ c.args.g c.args.verb _ c.requires.verb_value c.place_of-a.ensures c.place_of-b.ensures c.place_of-c.ensures c.next_vertex.ensures (points_part _ _ _) c.requires.fits c.draw_cut-run.ensures
 
 -- the parts begin within the lists
 inside : (c : After-next_vertex) → let s = c.args in
@@ -67,8 +60,8 @@ slice_bounds-draw_cut-start-3 c = omega (arith, inside (goal.at.slice_bounds-dra
 pub draw_cut-run-requires : goal.draw_cut-run-requires
 draw_cut-run-requires c =
     let within = c.requires.inside in
-    let few = part_cuts c.args.stroke _ c.args.g c.args.verb _ (ends (goal.at.draw_cut-run-requires c).After-next_vertex) (points_part _ _ _) c.requires.cuts_few in
-    let room = part_fits _ _ c.args.g c.args.verb _ (ends (goal.at.draw_cut-run-requires c).After-next_vertex) c.place_of-a.ensures c.place_of-b.ensures c.place_of-c.ensures c.next_vertex.ensures (points_part _ _ _) c.requires.fits in
+    let few = part_cuts c.args.stroke _ c.args.g c.args.verb _ c.requires.verb_value (points_part _ _ _) c.requires.cuts_few in
+    let room = part_fits _ _ c.args.g c.args.verb _ c.requires.verb_value c.place_of-a.ensures c.place_of-b.ensures c.place_of-c.ensures c.next_vertex.ensures (points_part _ _ _) c.requires.fits in
     record { p_bound = simp (length-take, length-drop) (omega (arith, within.end, within.few)); cuts_few = few; fits = room }
 
 pub overflow_add-vertices : goal.overflow_add-vertices
@@ -79,4 +72,4 @@ overflow_add-triangles c = omega (arith, few (goal.at.overflow_add-triangles c).
 
 pub returns : goal.returns
 returns c =
-    part_puts _ _ c.args.g c.args.verb _ (ends (goal.at.returns c).After-next_vertex) c.place_of-a.ensures c.place_of-b.ensures c.place_of-c.ensures c.next_vertex.ensures (points_part _ _ _) c.requires.fits c.draw_cut-run.ensures
+    part_puts _ _ c.args.g c.args.verb _ c.requires.verb_value c.place_of-a.ensures c.place_of-b.ensures c.place_of-c.ensures c.next_vertex.ensures (points_part _ _ _) c.requires.fits c.draw_cut-run.ensures

@@ -1,5 +1,4 @@
 -- `cuts::run_cuts::count_run` meets its contract. Assumes nothing.
--- from the look for the end back to the start
 use Prim.Native.Nat.{◌*◌, ◌≤◌}
 use mathlib.Core.Path.{◌≡◌, sym}
 use native.Mathlib.Omega.{arith}

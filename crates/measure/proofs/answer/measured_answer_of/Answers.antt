@@ -1,5 +1,4 @@
 -- `measure::answer::measured_answer_of` meets its contract. Assumes nothing.
--- src/answer.rt:43:26
 use Rattle.measure.proofs.answer.measured_answer_of.Goals as goal
 
 pub returns-in-Counts : goal.returns-in-Counts

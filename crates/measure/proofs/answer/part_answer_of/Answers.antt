@@ -1,5 +1,4 @@
 -- `measure::answer::part_answer_of` meets its contract. Assumes nothing.
--- src/answer.rt:56:21
 use Rattle.measure.proofs.answer.part_answer_of.Goals as goal
 
 pub returns-in-Part : goal.returns-in-Part

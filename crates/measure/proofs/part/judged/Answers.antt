@@ -1,5 +1,4 @@
 -- `measure::part::judged` meets its contract. Assumes nothing.
--- src/part.rt:25:9
 use borrow.Author.Tests.{lt-ltb, le-ltb}
 use Rattle.measure.specs.Judged.{judged_of}
 use Rattle.measure.proofs.Judging.{part_none, part_some}
