@@ -29,16 +29,16 @@ pub draw_runs-requires : goal.draw_runs-requires
 draw_runs-requires c =
     let pre = c.requires in
     let j = rw c.smaller.ensures at c.judged-answer.ensures in
-    record { paired = sound_paired _ _ pre.0; cuts_few = pre.1; fits = mesh_fits _ _ _ _ pre.0 pre.1 _ c.count_accepted-c.ensures _ j (sym c.fits2.ensures ∙ c.if-fits.true) }
+    record { paired = sound_paired _ _ pre.0; cuts_few = pre.1; fits = mesh_fits _ _ _ _ pre.0 pre.1 _ c.count_accepted-c.ensures _ j (sym c.fits.ensures ∙ c.if-fits.true) }
 
 pub returns-then-fits : goal.returns-then-fits
 returns-then-fits c =
     let pre = c.requires in
     let j = rw c.smaller.ensures at c.judged-answer.ensures in
-    is_drawn _ _ _ _ pre.0 pre.1 _ c.count_accepted-c.ensures _ j (sym c.fits2.ensures ∙ c.if-fits.true) c.draw_runs.ensures
+    is_drawn _ _ _ _ pre.0 pre.1 _ c.count_accepted-c.ensures _ j (sym c.fits.ensures ∙ c.if-fits.true) c.draw_runs.ensures
 
 pub returns-else-fits : goal.returns-else-fits
 returns-else-fits c =
     let pre = c.requires in
     let j = rw c.smaller.ensures at c.judged-answer.ensures in
-    is_refused _ _ _ _ pre.0 pre.1 _ c.count_accepted-c.ensures _ j (sym c.fits2.ensures ∙ c.if-fits.false)
+    is_refused _ _ _ _ pre.0 pre.1 _ c.count_accepted-c.ensures _ j (sym c.fits.ensures ∙ c.if-fits.false)

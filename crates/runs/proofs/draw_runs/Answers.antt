@@ -1,6 +1,5 @@
 -- `runs::draw_runs` meets its contract. The plan: the loop's invariant is Drawing's `Going`, from its start (`going_none`) by one verb a turn (`going_turn`) to the end of the verbs (`going_all`). Assumes nothing.
 use borrow.Author.Rules.{rules}
-use Prim.Native.Nat.{◌-◌}
 use mathlib.Core.Path.{refl}
 use native.Mathlib.Omega.{arith}
 use Rattle.runs.specs.Passes.{Inside}

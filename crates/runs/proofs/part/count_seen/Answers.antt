@@ -1,7 +1,6 @@
 -- `runs::part::count_seen` meets its contract. The plan: the loop's invariant is `Seeing`, from its start (`seeing_none`) by one verb a turn (`seeing_turn`) to the
 -- end of the verbs (`seeing_all`). Assumes nothing.
 use borrow.Author.Rules.{rules}
-use Prim.Native.Nat.{◌-◌}
 use mathlib.Core.Path.{refl}
 use native.Mathlib.Omega.{arith}
 use Rattle.runs.proofs.Drawing.{going_inside, going_few, going_fits}
