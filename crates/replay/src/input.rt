@@ -70,10 +70,8 @@ fn ended(line: &Line, out: &mut Buffer, r: Reading) -> Reading {
 // Takes the bytes of a chunk, one by one.
 fn taken(line: &mut Line, out: &mut Buffer, r: Reading, chunk: &[u8]) -> Reading {
     let mut reading = r;
-    let mut i = 0;
-    while i < chunk.len() {
-        reading = byte_taken(line, out, reading, chunk[i]);
-        i += 1;
+    for b in chunk {
+        reading = byte_taken(line, out, reading, *b);
     }
     reading
 }
