@@ -2,23 +2,26 @@
 // may be longer than the buffer, and many short ones are one write.
 ghost use Rattle.std.specs.Prelude.{◌≡◌, ◌≤◌};
 
-use libc::STDOUT_FILENO;
+use std::io::{Stdout, Write};
 
 pub const SIZE: usize = 65536;
 
 pub type Buffer = [u8; SIZE];
 
-// How many bytes wait, and whether more may be printed: not after a write that failed.
+// How many bytes wait, whether more may be printed (not after a write that failed), and the leave
+// to write them, which takes no room.
 #[derive(Clone, Copy)]
 pub struct Printed {
     pub waiting: usize,
     pub open: bool,
+    pub to: Stdout,
 }
 
-pub fn nothing() -> Printed {
+pub fn nothing(to: Stdout) -> Printed {
     Printed {
         waiting: 0,
         open: true,
+        to,
     }
 }
 
@@ -28,13 +31,14 @@ pub fn flushed(out: &[u8], p: Printed) -> Printed
 {
     Printed {
         waiting: 0,
-        open: p.open && is_written(out, p.waiting),
+        open: p.open && is_written(p.to, out, p.waiting),
+        to: p.to,
     }
 }
 
-fn is_written(out: &[u8], n: usize) -> bool {
+fn is_written(mut to: Stdout, out: &[u8], n: usize) -> bool {
     if n <= out.len() {
-        io::write_all(STDOUT_FILENO, &out[0..n])
+        to.write_all(&out[0..n]).is_ok()
     } else {
         false
     }

@@ -7,10 +7,8 @@ use crate::words::{float, hex_byte, number, space, text};
 // Prints floats, and not how many.
 pub fn float_row(out: &mut Buffer, p: Printed, values: &[f32]) -> Printed {
     let mut q = p;
-    let mut i = 0;
-    while i < values.len() {
-        q = float(out, q, values[i]);
-        i += 1;
+    for value in values {
+        q = float(out, q, *value);
     }
     q
 }
@@ -26,10 +24,8 @@ pub fn named_row(out: &mut Buffer, p: Printed, name: &[u8], values: &[f32]) -> P
 // Prints how many numbers there are and the numbers.
 pub fn number_list(out: &mut Buffer, p: Printed, values: &[u32]) -> Printed {
     let mut q = number(out, p, values.len() as u64);
-    let mut i = 0;
-    while i < values.len() {
-        q = number(out, q, values[i] as u64);
-        i += 1;
+    for value in values {
+        q = number(out, q, u64::from(*value));
     }
     q
 }
@@ -45,10 +41,8 @@ pub fn byte_list(out: &mut Buffer, p: Printed, bytes: &[u8]) -> Printed {
 
 fn byte_row(out: &mut Buffer, p: Printed, bytes: &[u8]) -> Printed {
     let mut q = p;
-    let mut i = 0;
-    while i < bytes.len() {
-        q = hex_byte(out, q, bytes[i]);
-        i += 1;
+    for byte in bytes {
+        q = hex_byte(out, q, *byte);
     }
     q
 }

@@ -12,6 +12,7 @@ pub fn text(out: &mut Buffer, p: Printed, bytes: &[u8]) -> Printed
     Printed {
         waiting: text_at(out, q.waiting, bytes),
         open: q.open,
+        to: q.to,
     }
 }
 
@@ -21,6 +22,7 @@ pub fn decimal(out: &mut Buffer, p: Printed, n: u64) -> Printed {
     Printed {
         waiting: decimal_at(out, q.waiting, n),
         open: q.open,
+        to: q.to,
     }
 }
 
@@ -30,6 +32,7 @@ pub fn hex(out: &mut Buffer, p: Printed, x: f32) -> Printed {
     Printed {
         waiting: float_at(out, q.waiting, x),
         open: q.open,
+        to: q.to,
     }
 }
 
@@ -39,6 +42,7 @@ pub fn hex_byte(out: &mut Buffer, p: Printed, b: u8) -> Printed {
     Printed {
         waiting: hex_byte_at(out, q.waiting, b),
         open: q.open,
+        to: q.to,
     }
 }
 

@@ -1,13 +1,16 @@
 // Standard input, read by chunks and taken apart into lines, of any number and any length.
 use crate::cases::answer;
-use libc::STDIN_FILENO;
 use printing::buffer::{Buffer, Printed, flushed, nothing};
 use printing::replies::bad_line;
+use std::io::{Read, Stdin, Stdout};
 
 // The room for a line: a longer one is a bad line.
 pub const ROOM: usize = 262144;
 
 pub type Line = [u8; ROOM];
+
+// What one read takes at most.
+const CHUNK: usize = 65536;
 
 // How many bytes of the line that is being read are held, or one more than its room where it is
 // longer than that; and what was printed.
@@ -17,17 +20,18 @@ struct Reading {
     printed: Printed,
 }
 
-// A proved loop has to end, and nothing says that the input does: so the loop counts its turns down,
-// from a number that no run uses up.
-pub fn answer_all(line: &mut Line, out: &mut Buffer) {
+// A proved loop has to end, and nothing says that the input does: so the loop counts its turns, up to
+// a number that no run uses up.
+pub fn answer_all(from: Stdin, to: Stdout, line: &mut Line, out: &mut Buffer) {
     let mut reading = Reading {
         held: 0,
-        printed: nothing(),
+        printed: nothing(to),
     };
-    let mut turns = u64::MAX;
-    while turns > 0 && is_open(reading) {
-        reading = turn(line, out, reading);
-        turns -= 1;
+    for _ in 0..u64::MAX {
+        if !is_open(reading) {
+            break;
+        }
+        reading = turn(from, line, out, reading);
     }
 }
 
@@ -36,15 +40,12 @@ fn is_open(r: Reading) -> bool {
     p.open
 }
 
-// Reads once, and answers the lines that end in what came.
-fn turn(line: &mut Line, out: &mut Buffer, r: Reading) -> Reading {
-    let mut chunk = io::large_buffer();
-    let got = libc::read(STDIN_FILENO, &mut chunk);
-    let n = io::count(got, &chunk);
-    if n == 0 {
-        ended(line, out, r)
-    } else {
-        taken(line, out, r, &chunk[..n])
+// Reads once, and answers the lines that end in what came. A read that fails ends the input.
+fn turn(mut from: Stdin, line: &mut Line, out: &mut Buffer, r: Reading) -> Reading {
+    let mut chunk = [0u8; CHUNK];
+    match from.read(&mut chunk) {
+        Ok(n) if n > 0 => taken(line, out, r, &chunk[..n]),
+        _ => ended(line, out, r),
     }
 }
 
@@ -61,6 +62,7 @@ fn ended(line: &Line, out: &mut Buffer, r: Reading) -> Reading {
         printed: Printed {
             waiting: 0,
             open: false,
+            to: p.to,
         },
     }
 }
@@ -68,10 +70,8 @@ fn ended(line: &Line, out: &mut Buffer, r: Reading) -> Reading {
 // Takes the bytes of a chunk, one by one.
 fn taken(line: &mut Line, out: &mut Buffer, r: Reading, chunk: &[u8]) -> Reading {
     let mut reading = r;
-    let mut i = 0;
-    while i < chunk.len() {
-        reading = byte_taken(line, out, reading, chunk[i]);
-        i += 1;
+    for b in chunk {
+        reading = byte_taken(line, out, reading, *b);
     }
     reading
 }

@@ -1,8 +1,8 @@
 // Standard input, taken as the bytes of a text.
 ghost use Rattle.std.specs.Prelude.{◌+◌, ◌≤◌, length};
-ghost use Rattle.io.specs.Counts.{IsPrefixLen};
+ghost use Rattle.stripe.specs.Counts.{IsPrefixLen};
 
-use libc::STDIN_FILENO;
+use std::io::{Read, Stdin};
 
 // How many bytes came, and whether no read failed.
 #[derive(Drop)]
@@ -12,12 +12,12 @@ pub struct Input {
 }
 
 // Reads until the input ends, the list is full or a read fails.
-pub fn read_text(text: &mut [u8]) -> Input
+pub fn read_text(from: Stdin, text: &mut [u8]) -> Input
     ensures { IsPrefixLen result.count text.new }
 {
     let mut count = 0;
     while count < text.len() {
-        let more = read_from(text, count);
+        let more = read_from(from, text, count);
         if more.count == 0 {
             return Input {
                 count,
@@ -29,15 +29,16 @@ pub fn read_text(text: &mut [u8]) -> Input
     Input { count, whole: true }
 }
 
-// Reads once, into the list from a place on. A read answers -1 where it fails, and 0 at the end of the input.
-fn read_from(text: &mut [u8], from: usize) -> Input
-    requires { from ≤ length text.old }
-    ensures { from + result.count ≤ length text.old }
+// Reads once, into the list from a place on. A read answers 0 at the end of the input.
+fn read_from(mut from: Stdin, text: &mut [u8], start: usize) -> Input
+    requires { start ≤ length text.old }
+    ensures { start + result.count ≤ length text.old }
 {
-    let got = libc::read(STDIN_FILENO, &mut text[from..]);
-    let count = io::count(got, &text[from..]);
-    Input {
-        count,
-        whole: got >= 0,
+    match from.read(&mut text[start..]) {
+        Ok(count) => Input { count, whole: true },
+        Err(_) => Input {
+            count: 0,
+            whole: false,
+        },
     }
 }

@@ -1,21 +1,7 @@
--- `case_mesh::call::answer_mesh` is safe: the lists that are asked for are no longer than the rooms. Assumes nothing.
-use Prim.Native.Nat.{ℕ, ◌≤◌}
-use mathlib.Core.Path.{sym, subst}
-use native.Mathlib.Nat.{le_trans}
-use lib.Dec.{lit≤}
-use lib.Seq.{length-take-le}
+-- The lists that are asked for are no longer than the rooms.
+use Rattle.std.proofs.Common.{arith}
+use Rattle.std.proofs.lemmas.List.{length-take}
 use Rattle.case_mesh.proofs.call.answer_mesh.Goals as goal
 
-pub slice_bounds-answer_call-end : goal.slice_bounds-answer_call-end
-slice_bounds-answer_call-end c = sym (length-take-le c.args.front.floats _ (array-borrow-prefix-v c))
-
-pub slice_bounds-answer_call-end-2 : goal.slice_bounds-answer_call-end-2
-slice_bounds-answer_call-end-2 c = sym (length-take-le c.args.front.sources _ (array-borrow-prefix-s c))
-
-pub slice_bounds-answer_call-end-3 : goal.slice_bounds-answer_call-end-3
-slice_bounds-answer_call-end-3 c = sym (length-take-le c.args.front.numbers _ (array-borrow-prefix-t c))
-
 pub answer_call-requires : goal.answer_call-requires
-answer_call-requires c =
-    let pre = c.requires in
-    (subst (λ (k : ℕ). k ≤ 81920) (slice-aggregate-answer-call c) pre.0, subst (λ (k : ℕ). k ≤ 81920) (slice-aggregate-answer-call-2 c) (le_trans pre.1 (lit≤ tt)), subst (λ (k : ℕ). k ≤ 81920) (slice-aggregate-answer-call-3 c) (le_trans pre.2 (lit≤ tt)))
+answer_call-requires c = (rw length-take (omega (arith, c.requires.0)), rw length-take (omega (arith, c.requires.1)), rw length-take (omega (arith, c.requires.2)))

@@ -1,11 +1,7 @@
--- `case_stl::write_call::answer_write` is safe: the list that is asked for is no longer than the room. Assumes nothing.
-use Prim.Native.Nat.{ℕ, ◌≤◌}
-use mathlib.Core.Path.{sym, subst}
-use lib.Seq.{length-take-le}
+-- The list that is asked for is no longer than the room.
+use Rattle.std.proofs.Common.{arith}
+use Rattle.std.proofs.lemmas.List.{length-take}
 use Rattle.case_stl.proofs.write_call.answer_write.Goals as goal
 
-pub slice_bounds-answer_call-end : goal.slice_bounds-answer_call-end
-slice_bounds-answer_call-end c = sym (length-take-le c.args.bytes _ (array-borrow-prefix-file c))
-
 pub answer_call-requires : goal.answer_call-requires
-answer_call-requires c = subst (λ (k : ℕ). k ≤ 131072) (slice-aggregate-answer-call c) c.requires
+answer_call-requires c = rw length-take (omega (arith, c.requires))

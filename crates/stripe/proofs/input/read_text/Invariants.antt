@@ -1,7 +1,5 @@
--- `stripe::input::read_text` meets its contract. The loop's invariant: no more bytes are counted than the list has. Assumes nothing.
-use Prim.Native.Nat.{◌-◌, ◌≤◌}
-use mathlib.Core.Path.{◌≡◌}
-use lib.ListN.{length}
+-- No more bytes are counted than the list has, whose length stays. The measure is the room that is left.
+use Rattle.std.proofs.Common.{length, ◌-◌, ◌≤◌, ◌≡◌}
 use Rattle.stripe.proofs.input.read_text.Given as goal
 
 abbrev pub invariant-loop-count : goal.invariant-loop-count
