@@ -1,4 +1,4 @@
-/* Stipeharbor: a path in, the mesh of its stripe out, or one refusal. Every call is proved (docs/PROVED.md); target/staticlib/libstipeharbor.a has them.
+/* Stipeharbor: a path in, the mesh of its stripe out, or one refusal. Every call is proved (docs/PROVED.md); crates/stipeharbor/out/libstipeharbor.a has them.
  *
  * A list is a pointer and a length, and every length counts elements, not bytes. What a caller keeps to, since no proof reaches C:
  * - the pointer is aligned for its type and valid for as many elements; of a list of length 0 it is not used, and may be NULL;

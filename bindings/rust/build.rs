@@ -1,5 +1,4 @@
-//! Finds the archive: in the folder that STIPEHARBOR_LIB_DIR names, else where `rt staticlib
-//! stipeharbor` leaves it.
+//! Finds the archive: in the folder that STIPEHARBOR_LIB_DIR names, else where `rt lib` leaves it.
 
 use std::env;
 use std::path::{Path, PathBuf};
@@ -13,7 +12,7 @@ fn main() {
     println!("cargo:rerun-if-changed={}", archive.display());
     if !archive.is_file() {
         eprintln!("There is no {}.", archive.display());
-        eprintln!("In the repository of Stipeharbor, `rt staticlib stipeharbor` makes it for x86-64, where this crate looks by itself;");
+        eprintln!("In the repository of Stipeharbor, `rt lib` in crates/stipeharbor makes it for x86-64, where this crate looks by itself;");
         eprintln!("`tools/native` makes target/native/TARGET/libstipeharbor.a for this machine and others:");
         eprintln!("then set STIPEHARBOR_LIB_DIR to the folder that has it.");
         exit(1);
@@ -26,6 +25,6 @@ fn folder() -> PathBuf {
     match env::var_os("STIPEHARBOR_LIB_DIR") {
         Some(folder) => PathBuf::from(folder),
         None => Path::new(&env::var("CARGO_MANIFEST_DIR").expect("CARGO_MANIFEST_DIR"))
-            .join("../../target/staticlib"),
+            .join("../../crates/stipeharbor/out"),
     }
 }
