@@ -16,7 +16,7 @@ use Rattle.reader.specs.declared.answer.ReadAnswer.{ReadAnswer}
 use Rattle.pieces.specs.Piece.{lent}
 use Rattle.mesh.specs.Mesh as mesh
 use Rattle.mesh.specs.declared.answer.MeshAnswer.{MeshAnswer}
-use Rattle.page.specs.Page.{options_of, text_room, verb_room, coord_room, vertex_room, source_room, triangle_room, AreShort, mesh_page, refused_page, mesh_page_of, read_page_of, long_text_lem, read_text, PutsPage}
+use Rattle.page.specs.Page.{options_of, text_room, verb_room, coord_room, vertex_room, source_room, triangle_room, AreShort, mesh_page, refused_page, mesh_page_of, read_page_of, too_long, read_text, PutsPage}
 use Rattle.mesh.proofs.Rooms.{smaller_both}
 use Rattle.page.proofs.Rooms.{mesh_roomy, read_roomy}
 use Rattle.page.proofs.Named.{below_zeros, below_at, mesh_named}
@@ -55,7 +55,7 @@ module _ {xs ys : List ℕ} {k i : ℕ} where
 
 -- ---- a text
 pub long_refused : {s xs ys : List ℕ} {i : ℕ} → text_room < length s → Puts (refused_page (number_of long_text) 0) 0 xs i ys → PutsPage s xs i ys
-long_refused h p = record { page = refused_page (number_of long_text) 0; prints = long_text_lem h; long = omega (arith, p.behind); list = p.list }
+long_refused h p = record { page = refused_page (number_of long_text) 0; prints = too_long h; long = omega (arith, p.behind); list = p.list }
 
 module _ {s xs ys : List ℕ} {i : ℕ} {o : reader.Outcome} (few : length s ≤ text_room) (reads : Reads s verb_room coord_room o) where
   page_of : Puts (read_page_of o) 0 xs i ys → PutsPage s xs i ys

@@ -89,7 +89,7 @@ read_page_of o =
 
 -- The page of the bytes s. The reader allows one outcome, so there is one page: `one_page` of proofs/Unique.antt.
 pub data Prints (s : List ℕ) : List ℕ → Type 0 where
-  long_text_lem : text_room < length s → Prints s (refused_page (number_of long_text) 0)
+  too_long : text_room < length s → Prints s (refused_page (number_of long_text) 0)
   read_text : (o : reader.Outcome) → length s ≤ text_room → Reads s verb_room coord_room o → Prints s (read_page_of o)
 
 -- the page of s is put over the start of a list, and n is its length

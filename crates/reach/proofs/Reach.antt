@@ -106,7 +106,7 @@ module _ (verbs : List ℕ) (coords : List Float) (options : Options) (ds : List
       let k : i < length (mesh_vertices o rs) = omega (arith, L.count) in
       let v = all_at Held (mesh_vertices o rs) blank i (mesh_all o W N Held (λ n vs D. all_held o W N D (unclipped f)) rs all_drawn) k in
       let s = L.reads i k in
-      record { x = rw s.x (at_most v.x); y = rw s.y (at_most v.y); normal_x_lem = rw s.normal_x (at_most v.normal_x); normal_y_lem = rw s.normal_y (at_most v.normal_y) }
+      record { x = rw s.x (at_most v.x); y = rw s.y (at_most v.y); normal_x = rw s.normal_x (at_most v.normal_x); normal_y = rw s.normal_y (at_most v.normal_y) }
 
   advanced : (i : ℕ) → i < (outcome_of verbs coords options ds l).answer.vertices → AtMost (2 ^ 33) (float_at (outcome_of verbs coords options ds l) i 4)
   advanced i h =
@@ -130,7 +130,7 @@ proved verbs coords options ds l e f i h = reached verbs coords options ds l e f
 pub asked : Asked
 asked verbs coords options ds l e f i h =
     let r = proved verbs coords options ds l e f i h in
-    record { x = looser r.x (lit≤ tt); y = looser r.y (lit≤ tt); normal_x_lem = looser r.normal_x_lem (lit≤ tt); normal_y_lem = looser r.normal_y_lem (lit≤ tt) }
+    record { x = looser r.x (lit≤ tt); y = looser r.y (lit≤ tt); normal_x = looser r.normal_x (lit≤ tt); normal_y = looser r.normal_y (lit≤ tt) }
 
 pub advances : Advances
 advances verbs coords options ds l e = (advanced verbs coords options ds l e, falling verbs coords options ds l e)

@@ -30,8 +30,8 @@ float_at out i j = get_or out.lists.vertices (5 * i + j) nan
 pub record Reached (out : Outcome) (place normal i : ℕ) : Type 0 where
   pub x : AtMost place (float_at out i 0)
   pub y : AtMost place (float_at out i 1)
-  pub normal_x_lem : AtMost normal (float_at out i 2)
-  pub normal_y_lem : AtMost normal (float_at out i 3)
+  pub normal_x : AtMost normal (float_at out i 2)
+  pub normal_y : AtMost normal (float_at out i 3)
 
 -- of every vertex that the answer counts
 abbrev pub AllReached : Outcome → ℕ → ℕ → Type 0
