@@ -76,7 +76,7 @@ pub fn run_vertices<'a>(
     number: &mut u32,
     place: &mut usize,
 ) -> &'a [f32]
-    ensures { record { number = number.exit.now; place = place.new; part = result.now } ≡ handed_of verbs.now coords.now options lengths.now run vertices.now }
+    ensures { record { number = number.new; place = place.new; part = result.now } ≡ handed_of verbs.now coords.now options lengths.now run vertices.now }
 {
     let a = part_answer_of(find_run(verbs, coords, options, lengths, run, vertices.len()));
     *number = a.number;

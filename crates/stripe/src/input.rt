@@ -12,12 +12,12 @@ pub struct Input {
 }
 
 // Reads until the input ends, the list is full or a read fails.
-pub fn read_text(from: Stdin, text: &mut [u8]) -> Input
+pub fn read_text(stdin: Stdin, text: &mut [u8]) -> Input
     ensures { IsPrefixLen result.count text.new }
 {
     let mut count = 0;
     while count < text.len() {
-        let more = read_from(from, text, count);
+        let more = read_from(stdin, text, count);
         if more.count == 0 {
             return Input {
                 count,
@@ -30,11 +30,11 @@ pub fn read_text(from: Stdin, text: &mut [u8]) -> Input
 }
 
 // Reads once, into the list from a place on. A read answers 0 at the end of the input.
-fn read_from(mut from: Stdin, text: &mut [u8], start: usize) -> Input
-    requires { start ≤ length text.old }
-    ensures { start + result.count ≤ length text.old }
+fn read_from(mut stdin: Stdin, text: &mut [u8], from: usize) -> Input
+    requires { from ≤ length text.old }
+    ensures { from + result.count ≤ length text.old }
 {
-    match from.read(&mut text[start..]) {
+    match stdin.read(&mut text[from..]) {
         Ok(count) => Input { count, whole: true },
         Err(_) => Input {
             count: 0,
