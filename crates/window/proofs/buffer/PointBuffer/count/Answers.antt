@@ -1,4 +1,4 @@
--- `window::buffer::PointBuffer::count` meets its contract. That the slots are three is known of `self` as it is passed (`good`). Assumes nothing.
+-- `window::buffer::PointBuffer::count` meets its contract. That the slots are three is known of `self` as it is passed (`well_formed`). Assumes nothing.
 use native.Mathlib.Omega.{arith}
 use Rattle.window.proofs.Slots.{length_held}
 use Rattle.window.proofs.buffer.PointBuffer.count.Goals as goal

@@ -1,4 +1,4 @@
--- `window::buffer::PointBuffer::get` meets its contract. That the slots are three is known of `self` as it is passed (`good`). Assumes nothing.
+-- `window::buffer::PointBuffer::get` meets its contract. That the slots are three is known of `self` as it is passed (`well_formed`). Assumes nothing.
 use Prim.Native.Nat.{◌<◌}
 use mathlib.Core.Path.{sym}
 use native.Mathlib.Omega.{arith}

@@ -1,5 +1,5 @@
 -- `window::buffer::PointBuffer::push` meets its contract, with room and in a full window. That the slots are three is known of `self` as it is
--- passed (`good`). Assumes nothing.
+-- passed (`well_formed`). Assumes nothing.
 use Rattle.window.proofs.Slots.{pushed_room, pushed_full}
 use Rattle.window.proofs.buffer.PointBuffer.push.Goals as goal
 

@@ -1,5 +1,5 @@
 -- `window::buffer::PointBuffer::replace_last` meets its contract, in an empty window and in any other. That the slots are three is
--- known of `self` as it is passed (`good`). Assumes nothing.
+-- known of `self` as it is passed (`well_formed`). Assumes nothing.
 use Prim.Native.Nat.{◌<◌}
 use mathlib.Core.Path.{◌≡◌, refl, sym}
 use mathlib.Core.List.{[]}
