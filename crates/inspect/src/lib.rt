@@ -13,30 +13,28 @@ ghost use Rattle.inspect.specs.Answer.{check_of, check_attached_of};
 use attached::first_loose;
 use names::first_unnamed;
 use numbers::{first_alike, first_large};
-use refusals::{
-    ACCEPTED, LIST_LENGTH, NOT_ATTACHED, NUMBER_TOO_LARGE, TWO_ALIKE, VERTEX_UNNAMED, Verdict,
-};
+use refusals::{Meaning, Verdict};
 
 // 0 where the list is one of triangles over all of `count` vertices, else its first fault.
 pub fn check(count: usize, list: &[u32]) -> Verdict
     ensures { result ≡ check_of count list.now }
 {
     if list.len() % 3 != 0 {
-        return verdict(LIST_LENGTH, 0);
+        return verdict(Meaning::ListLength as u32, 0);
     }
     let large = first_large(count, list);
     if large < list.len() {
-        return verdict(NUMBER_TOO_LARGE, large);
+        return verdict(Meaning::NumberTooLarge as u32, large);
     }
     let alike = first_alike(list);
     if alike < list.len() / 3 {
-        return verdict(TWO_ALIKE, alike);
+        return verdict(Meaning::TwoAlike as u32, alike);
     }
     let unnamed = first_unnamed(count, list);
     if unnamed < count {
-        return verdict(VERTEX_UNNAMED, unnamed);
+        return verdict(Meaning::VertexUnnamed as u32, unnamed);
     }
-    verdict(ACCEPTED, 0)
+    verdict(Meaning::Accepted as u32, 0)
 }
 
 // The same, then whether each triangle but the first has exactly two vertices of some earlier one.
@@ -44,14 +42,14 @@ pub fn check_attached(count: usize, list: &[u32]) -> Verdict
     ensures { result ≡ check_attached_of count list.now }
 {
     let checked = check(count, list);
-    if checked.number != ACCEPTED {
+    if checked.number != Meaning::Accepted as u32 {
         return checked;
     }
     let loose = first_loose(list);
     if loose < list.len() / 3 {
-        return verdict(NOT_ATTACHED, loose);
+        return verdict(Meaning::NotAttached as u32, loose);
     }
-    verdict(ACCEPTED, 0)
+    verdict(Meaning::Accepted as u32, 0)
 }
 
 fn verdict(number: u32, place: usize) -> Verdict

@@ -3,7 +3,7 @@ ghost use Rattle.std.specs.Prelude.{◌≡◌};
 ghost use Rattle.measure.specs.Answer.{measured_answer_of, with_part, without_part, part_answer_of};
 
 use mesh::answer::{MeshAnswer, with_counts, with_place};
-use refusals::{ACCEPTED, NO_RUN, Refusal, VERTEX_ROOM, verdict_of};
+use refusals::{Meaning, Refusal, verdict_of};
 
 // Both counts, vertices and triangles, or the first of refusals 1 to 4 and 26.
 #[derive(Drop)]
@@ -39,7 +39,7 @@ pub fn measured_answer_of(answer: Measured) -> MeshAnswer
     ensures { result ≡ measured_answer_of answer }
 {
     match answer {
-        Measured::Counts(n, m) => with_counts(ACCEPTED, n, m),
+        Measured::Counts(n, m) => with_counts(Meaning::Accepted as u32, n, m),
         Measured::Refused(r) => {
             let verdict = verdict_of(r);
             with_place(verdict.number, verdict.place)
@@ -57,8 +57,8 @@ pub fn part_answer_of(answer: Found) -> PartAnswer
             let verdict = verdict_of(r);
             without_part(verdict.number, verdict.place)
         }
-        Found::VertexRoom => without_part(VERTEX_ROOM, 0),
-        Found::NoRun => without_part(NO_RUN, 0),
+        Found::VertexRoom => without_part(Meaning::VertexRoom as u32, 0),
+        Found::NoRun => without_part(Meaning::NoRun as u32, 0),
     }
 }
 
@@ -66,7 +66,7 @@ fn with_part(start: usize, length: usize) -> PartAnswer
     ensures { result ≡ with_part start length }
 {
     PartAnswer {
-        number: ACCEPTED,
+        number: Meaning::Accepted as u32,
         place: 0,
         start: start,
         length: length,

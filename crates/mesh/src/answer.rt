@@ -3,7 +3,7 @@ ghost use Rattle.std.specs.Prelude.{true, ◌≡◌, ◌≤◌};
 ghost use Rattle.mesh.specs.Answer.{mesh_answer_of, with_counts, with_place, is_mesh, smaller_of, roomed_of, Plenty};
 
 use pieces::Place;
-use refusals::{ACCEPTED, Refusal, TRIANGLE_ROOM, VERTEX_ROOM, verdict_of};
+use refusals::{Meaning, Refusal, verdict_of};
 
 // A mesh, or the first refusal by number. A mesh and the refusals for want of room have both counts: vertices, then triangles.
 #[derive(Clone, Copy)]
@@ -71,7 +71,7 @@ pub fn fits(answer: Meshed) -> bool
     ensures { result ≡ is_mesh (mesh_answer_of answer) }
 {
     let a = mesh_answer_of(answer);
-    a.number == ACCEPTED
+    a.number == Meaning::Accepted as u32
 }
 
 // The number, the place and both counts that an answer stands for.
@@ -79,13 +79,13 @@ pub fn mesh_answer_of(answer: Meshed) -> MeshAnswer
     ensures { result ≡ mesh_answer_of answer }
 {
     match answer {
-        Meshed::Mesh(n, m) => with_counts(ACCEPTED, n, m),
+        Meshed::Mesh(n, m) => with_counts(Meaning::Accepted as u32, n, m),
         Meshed::Refused(r) => {
             let verdict = verdict_of(r);
             with_place(verdict.number, verdict.place)
         }
-        Meshed::VertexRoom(n, m) => with_counts(VERTEX_ROOM, n, m),
-        Meshed::TriangleRoom(n, m) => with_counts(TRIANGLE_ROOM, n, m),
+        Meshed::VertexRoom(n, m) => with_counts(Meaning::VertexRoom as u32, n, m),
+        Meshed::TriangleRoom(n, m) => with_counts(Meaning::TriangleRoom as u32, n, m),
     }
 }
 

@@ -6,7 +6,7 @@ ghost use Rattle.options.specs.Options.{within, in_range, line_join_of, line_cap
 
 use dashes::pattern::is_pattern;
 use endpoint::LineJoin;
-use refusals::{ACCEPTED, Refusal, verdict_of};
+use refusals::{Meaning, Refusal, verdict_of};
 
 // What a caller may choose. An option outside its range is refused with 1.
 #[derive(Clone, Copy)]
@@ -176,7 +176,7 @@ pub fn stroke_answer_of(s: Stroked) -> StrokeAnswer
 {
     match s {
         Stroked::Stroke(stroke) => StrokeAnswer {
-            number: ACCEPTED,
+            number: Meaning::Accepted as u32,
             place: 0,
             stroke,
         },

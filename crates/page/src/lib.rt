@@ -17,7 +17,7 @@ use mesh::tessellate;
 use options::Options;
 use reader::answer::read_answer_of;
 use reader::read;
-use refusals::LONG_TEXT;
+use refusals::Meaning;
 
 // Room for any page: two lines that count, and 18 bytes at most to each of 1,024 vertices and 1,536 triangles.
 pub const PAGE_ROOM: usize = 65536;
@@ -46,7 +46,7 @@ pub fn put_page(text: &[u8], out: &mut Page) -> usize
     ensures upper_bound { result ≤ 65536 }
 {
     if TEXT_ROOM < text.len() {
-        return put_refused(out, LONG_TEXT, 0);
+        return put_refused(out, Meaning::LongText as u32, 0);
     }
     let mut verbs = [0u8; VERB_ROOM];
     let mut coords = [0.0f32; COORD_ROOM];

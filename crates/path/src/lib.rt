@@ -8,7 +8,7 @@ ghost use Rattle.std.specs.Prelude.{◌≡◌};
 ghost use Rattle.path.specs.Path.{checked_of, check_answer_of};
 
 use coordinates::first_outside;
-use refusals::{ACCEPTED, Refusal, Verdict, verdict_of};
+use refusals::{Meaning, Refusal, Verdict, verdict_of};
 use verbs::{VERB_LIMIT, scan_verbs};
 
 // What `check_path` says: that all is well, or the first refusal by number.
@@ -50,7 +50,7 @@ pub fn check_answer_of(c: Checked) -> Verdict
 {
     match c {
         Checked::Accepted => Verdict {
-            number: ACCEPTED,
+            number: Meaning::Accepted as u32,
             place: 0,
         },
         Checked::Refused(r) => verdict_of(r),

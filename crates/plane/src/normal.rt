@@ -4,7 +4,7 @@ ghost use Rattle.plane.specs.F32.{size_below, size_at_most};
 ghost use Rattle.plane.specs.Normal.{epsilon, two, in_domain, normal_of, normal_answer_of, compute_normal_of};
 
 use crate::vector::{Point, divided, dot, normalize, plus, square_length, turned};
-use refusals::{ACCEPTED, BAD_COORDINATE};
+use refusals::Meaning;
 
 // What `compute_normal` says: the normal, or that an operand is outside the domain (refusal 4).
 #[derive(Drop)]
@@ -82,13 +82,13 @@ pub fn normal_answer_of(d: JoinDirection) -> NormalAnswer
 {
     match d {
         JoinDirection::Normal(x, y) => NormalAnswer {
-            number: ACCEPTED,
+            number: Meaning::Accepted as u32,
             place: 0,
             x: x,
             y: y,
         },
         JoinDirection::Refused => NormalAnswer {
-            number: BAD_COORDINATE,
+            number: Meaning::BadCoordinate as u32,
             place: 0,
             x: 0.0,
             y: 0.0,

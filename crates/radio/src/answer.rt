@@ -3,7 +3,7 @@ ghost use Rattle.std.specs.Prelude.{◌≡◌};
 ghost use Rattle.radio.specs.Answer.{report_of};
 
 use reader::answer::{ReadAnswer, Reading, read_answer_of};
-use refusals::AFTER_CLOSE;
+use refusals::Meaning;
 
 #[derive(Drop)]
 pub enum Report {
@@ -20,7 +20,7 @@ pub fn report_of(r: Report) -> ReadAnswer
     match r {
         Report::Text(reading) => read_answer_of(reading),
         Report::AfterClose => ReadAnswer {
-            number: AFTER_CLOSE,
+            number: Meaning::AfterClose as u32,
             place: 0,
             verbs: 0,
             coords: 0,

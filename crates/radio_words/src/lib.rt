@@ -10,7 +10,7 @@ ghost use Rattle.radio_words.specs.Calls.{start_of, take_of, close_of};
 use crate::codec::{held, put, words_of};
 use radio::answer::report_of;
 use reader::answer::ReadAnswer;
-use refusals::{ACCEPTED, AFTER_CLOSE};
+use refusals::Meaning;
 
 // How many words a state is.
 pub const WORDS: usize = 21;
@@ -20,11 +20,11 @@ pub fn start(state: &mut [usize]) -> u32
     ensures { record { number = result; state = state.new } ≡ start_of state.old }
 {
     if state.len() < WORDS {
-        return AFTER_CLOSE;
+        return Meaning::AfterClose as u32;
     }
     let words = words_of(radio::start());
     put(state, &words);
-    ACCEPTED
+    Meaning::Accepted as u32
 }
 
 // Takes a fragment; after a close, or where the words are no state's, nothing changes.
@@ -36,9 +36,9 @@ pub fn take(state: &mut [usize], fragment: &[u8], verbs: &mut [u8], coords: &mut
         let on = t.radio;
         let words = words_of(on);
         put(state, &words);
-        return ACCEPTED;
+        return Meaning::Accepted as u32;
     }
-    AFTER_CLOSE
+    Meaning::AfterClose as u32
 }
 
 // Ends the text; after a close, or where the words are no state's, nothing changes.
@@ -48,7 +48,7 @@ pub fn close(state: &mut [usize], verbs: &mut [u8], coords: &mut [f32]) -> ReadA
     let c = radio::close(held(state), verbs, coords);
     let report = c.report;
     let a = report_of(report);
-    if a.number != AFTER_CLOSE {
+    if a.number != Meaning::AfterClose as u32 {
         let closed = c.radio;
         let words = words_of(closed);
         put(state, &words);

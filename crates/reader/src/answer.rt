@@ -5,7 +5,7 @@ ghost use Rattle.reader.specs.Answer.{read_answer_of, with_counts, with_place, i
 use crate::counts::{Counts, Found};
 use crate::pass::{Passage, is_over};
 use path::verbs::VERB_LIMIT;
-use refusals::{ACCEPTED, LARGE_NUMBER, LONG_TEXT, MALFORMED_TEXT, READER_ROOM};
+use refusals::Meaning;
 
 // A path, or the first refusal by number.
 #[derive(Clone, Copy)]
@@ -82,10 +82,10 @@ pub fn read_answer_of(r: Reading) -> ReadAnswer
 {
     match r {
         Reading::Path(verbs, coords) => with_counts(verbs, coords),
-        Reading::TooLong => with_place(LONG_TEXT, 0),
-        Reading::OutOfForm(place) => with_place(MALFORMED_TEXT, place),
-        Reading::TooLarge(place) => with_place(LARGE_NUMBER, place),
-        Reading::NoRoom => with_place(READER_ROOM, 0),
+        Reading::TooLong => with_place(Meaning::LongText as u32, 0),
+        Reading::OutOfForm(place) => with_place(Meaning::MalformedText as u32, place),
+        Reading::TooLarge(place) => with_place(Meaning::LargeNumber as u32, place),
+        Reading::NoRoom => with_place(Meaning::ReaderRoom as u32, 0),
     }
 }
 
@@ -93,7 +93,7 @@ fn with_counts(verbs: usize, coords: usize) -> ReadAnswer
     ensures { result ≡ with_counts verbs coords }
 {
     ReadAnswer {
-        number: ACCEPTED,
+        number: Meaning::Accepted as u32,
         place: 0,
         verbs: verbs,
         coords: coords,

@@ -4,59 +4,36 @@
 ghost use Rattle.std.specs.Prelude.{◌≡◌};
 ghost use Rattle.refusals.specs.Numbers.{verdict_of};
 
-pub const ACCEPTED: u32 = 0;
-
-pub const OUT_OF_RANGE: u32 = 1;
-
-pub const TOO_MANY_VERBS: u32 = 2;
-
-pub const MISPLACED_VERB: u32 = 3;
-
-pub const BAD_COORDINATE: u32 = 4;
-
-// 5 is retired (W-207) and is given no other meaning.
-
-pub const VERTEX_ROOM: u32 = 6;
-
-pub const TRIANGLE_ROOM: u32 = 7;
-
-pub const LONG_TEXT: u32 = 8;
-
-pub const MALFORMED_TEXT: u32 = 9;
-
-pub const LARGE_NUMBER: u32 = 10;
-
-pub const READER_ROOM: u32 = 11;
-
-pub const WINDOW_REFUSED: u32 = 12;
-
-pub const NO_ROOT: u32 = 13;
-
-pub const FILE_ROOM: u32 = 14;
-
-pub const FILE_LENGTH: u32 = 15;
-
-pub const BAD_CORNER: u32 = 16;
-
-pub const LIST_ROOM: u32 = 17;
-
-pub const WIDE_NUMBER: u32 = 18;
-
-pub const NO_RUN: u32 = 19;
-
-pub const LIST_LENGTH: u32 = 20;
-
-pub const NUMBER_TOO_LARGE: u32 = 21;
-
-pub const TWO_ALIKE: u32 = 22;
-
-pub const VERTEX_UNNAMED: u32 = 23;
-
-pub const NOT_ATTACHED: u32 = 24;
-
-pub const AFTER_CLOSE: u32 = 25;
-
-pub const TOO_MANY_CUTS: u32 = 26;
+// What a number means. 5 is retired (W-207) and is given no other meaning.
+#[derive(Clone, Copy)]
+pub enum Meaning {
+    Accepted = 0,
+    OutOfRange = 1,
+    TooManyVerbs = 2,
+    MisplacedVerb = 3,
+    BadCoordinate = 4,
+    VertexRoom = 6,
+    TriangleRoom = 7,
+    LongText = 8,
+    MalformedText = 9,
+    LargeNumber = 10,
+    ReaderRoom = 11,
+    WindowRefused = 12,
+    NoRoot = 13,
+    FileRoom = 14,
+    FileLength = 15,
+    BadCorner = 16,
+    ListRoom = 17,
+    WideNumber = 18,
+    NoRun = 19,
+    ListLength = 20,
+    NumberTooLarge = 21,
+    TwoAlike = 22,
+    VertexUnnamed = 23,
+    NotAttached = 24,
+    AfterClose = 25,
+    TooManyCuts = 26,
+}
 
 // Refusals 1 to 4, and 26 behind them: what is wrong with the options or the path of a call.
 #[derive(Clone, Copy)]
@@ -84,23 +61,23 @@ pub fn verdict_of(r: Refusal) -> Verdict
 {
     match r {
         Refusal::OutOfRange => Verdict {
-            number: OUT_OF_RANGE,
+            number: Meaning::OutOfRange as u32,
             place: 0,
         },
         Refusal::TooManyVerbs => Verdict {
-            number: TOO_MANY_VERBS,
+            number: Meaning::TooManyVerbs as u32,
             place: 0,
         },
         Refusal::Verb(place) => Verdict {
-            number: MISPLACED_VERB,
+            number: Meaning::MisplacedVerb as u32,
             place,
         },
         Refusal::Coordinate(place) => Verdict {
-            number: BAD_COORDINATE,
+            number: Meaning::BadCoordinate as u32,
             place,
         },
         Refusal::TooManyCuts => Verdict {
-            number: TOO_MANY_CUTS,
+            number: Meaning::TooManyCuts as u32,
             place: 0,
         },
     }

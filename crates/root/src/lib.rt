@@ -8,7 +8,7 @@ ghost use Rattle.std.specs.Prelude.{◌≡◌};
 ghost use Rattle.root.specs.Answer.{Answers, answer_of};
 
 use pattern::{INFINITY, root_bits};
-use refusals::{ACCEPTED, NO_ROOT};
+use refusals::Meaning;
 
 // What `root` says: the root, or that there is none (refusal 13).
 #[derive(Drop)]
@@ -53,12 +53,12 @@ pub fn answer_of(r: Rooted) -> Answer
 {
     match r {
         Rooted::Root(value) => Answer {
-            number: ACCEPTED,
+            number: Meaning::Accepted as u32,
             place: 0,
             value: value,
         },
         Rooted::Refused => Answer {
-            number: NO_ROOT,
+            number: Meaning::NoRoot as u32,
             place: 0,
             value: 0.0,
         },

@@ -5,7 +5,7 @@ ghost use Rattle.stipeharbor.specs.Fragments.{close_out_of};
 
 use crate::put::put_numbers;
 use radio_words::{close, start, take};
-use refusals::AFTER_CLOSE;
+use refusals::Meaning;
 
 // A new text. `state` gets its words; one that is too short for them is left alone, with 25.
 #[unsafe(no_mangle)]
@@ -39,7 +39,7 @@ pub extern "C" fn stipeharbor_radio_close(
     ensures { record { number = result; answer = answer.new; state = state.new; verbs = verbs.new; coords = coords.new } ≡ close_out_of state.old verbs.old coords.old answer.old }
 {
     let a = close(state, verbs, coords);
-    if a.number != AFTER_CLOSE {
+    if a.number != Meaning::AfterClose as u32 {
         put_numbers(answer, a.place, a.verbs, a.coords);
     }
     a.number

@@ -2,7 +2,7 @@
 ghost use Rattle.std.specs.Prelude.{◌≡◌};
 ghost use Rattle.stl.specs.Answer.{with_count, with_place};
 
-use refusals::ACCEPTED;
+use refusals::Meaning;
 
 // A number, its place, and how many bytes were written or floats read.
 #[derive(Drop)]
@@ -16,7 +16,7 @@ pub fn with_count(count: usize) -> StlAnswer
     ensures { result ≡ with_count count }
 {
     StlAnswer {
-        number: ACCEPTED,
+        number: Meaning::Accepted as u32,
         place: 0,
         count: count,
     }

@@ -2,7 +2,7 @@
 ghost use Rattle.std.specs.Prelude.{◌≡◌};
 ghost use Rattle.stl_read.specs.Answer.{corners_answer_of};
 
-use refusals::{BAD_CORNER, FILE_LENGTH, LIST_ROOM};
+use refusals::Meaning;
 use stl::answer::{StlAnswer, with_count, with_place};
 
 // Corners, or the first refusal by number.
@@ -24,8 +24,8 @@ pub fn corners_answer_of(c: Corners) -> StlAnswer
 {
     match c {
         Corners::Floats(count) => with_count(count),
-        Corners::FileLength => with_place(FILE_LENGTH, 0),
-        Corners::Corner(place) => with_place(BAD_CORNER, place),
-        Corners::ListRoom => with_place(LIST_ROOM, 0),
+        Corners::FileLength => with_place(Meaning::FileLength as u32, 0),
+        Corners::Corner(place) => with_place(Meaning::BadCorner as u32, place),
+        Corners::ListRoom => with_place(Meaning::ListRoom as u32, 0),
     }
 }

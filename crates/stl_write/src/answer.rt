@@ -2,7 +2,7 @@
 ghost use Rattle.std.specs.Prelude.{◌≡◌};
 ghost use Rattle.stl_write.specs.Answer.{written_answer_of};
 
-use refusals::{BAD_CORNER, FILE_ROOM};
+use refusals::Meaning;
 use stl::answer::{StlAnswer, with_count, with_place};
 
 // A file, or the first refusal by number.
@@ -22,7 +22,7 @@ pub fn written_answer_of(w: Written) -> StlAnswer
 {
     match w {
         Written::File(count) => with_count(count),
-        Written::FileRoom => with_place(FILE_ROOM, 0),
-        Written::Corner(place) => with_place(BAD_CORNER, place),
+        Written::FileRoom => with_place(Meaning::FileRoom as u32, 0),
+        Written::Corner(place) => with_place(Meaning::BadCorner as u32, place),
     }
 }

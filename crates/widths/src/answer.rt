@@ -2,7 +2,7 @@
 ghost use Rattle.std.specs.Prelude.{◌≡◌};
 ghost use Rattle.widths.specs.Answer.{with_place, listed_answer_of};
 
-use refusals::{ACCEPTED, LIST_ROOM, WIDE_NUMBER};
+use refusals::Meaning;
 
 // Numbers, or the first refusal by number.
 #[derive(Drop)]
@@ -29,12 +29,12 @@ pub fn listed_answer_of(l: Listed) -> ListedAnswer
 {
     match l {
         Listed::Numbers(count) => ListedAnswer {
-            number: ACCEPTED,
+            number: Meaning::Accepted as u32,
             place: 0,
             count: count,
         },
-        Listed::ListRoom => with_place(LIST_ROOM, 0),
-        Listed::WideNumber(place) => with_place(WIDE_NUMBER, place),
+        Listed::ListRoom => with_place(Meaning::ListRoom as u32, 0),
+        Listed::WideNumber(place) => with_place(Meaning::WideNumber as u32, place),
     }
 }
 

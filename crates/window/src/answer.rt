@@ -3,7 +3,7 @@ ghost use Rattle.std.specs.Prelude.{◌≡◌};
 ghost use Rattle.window.specs.Answer.{get_answer_of, change_answer_of};
 
 use endpoint::{EndpointData, blank};
-use refusals::{ACCEPTED, WINDOW_REFUSED};
+use refusals::Meaning;
 
 // What `get` says: the endpoint, or that there is none there (refusal 12).
 #[derive(Drop)]
@@ -39,12 +39,12 @@ pub fn get_answer_of(g: Got) -> GetAnswer
 {
     match g {
         Got::Found(e) => GetAnswer {
-            number: ACCEPTED,
+            number: Meaning::Accepted as u32,
             place: 0,
             endpoint: e,
         },
         Got::Refused => GetAnswer {
-            number: WINDOW_REFUSED,
+            number: Meaning::WindowRefused as u32,
             place: 0,
             endpoint: blank(),
         },
@@ -57,11 +57,11 @@ pub fn change_answer_of(c: Change) -> ChangeAnswer
 {
     match c {
         Change::Done => ChangeAnswer {
-            number: ACCEPTED,
+            number: Meaning::Accepted as u32,
             place: 0,
         },
         Change::Refused => ChangeAnswer {
-            number: WINDOW_REFUSED,
+            number: Meaning::WindowRefused as u32,
             place: 0,
         },
     }
