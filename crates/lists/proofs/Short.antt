@@ -1,12 +1,20 @@
 -- Elements written over the start of a list that ends before they do. Assumes nothing.
 use Prim.Native.Nat.{◌≤◌, ◌<◌}
-use mathlib.Core.Path.{◌≡◌, refl}
-use mathlib.Core.List.{List, [], ◌∷◌}
+use mathlib.Core.Path.{◌≡◌, refl, ap}
+use mathlib.Core.List.{List, [], ◌∷◌, ◌++◌}
 use native.Mathlib.Omega.{arith}
-use lib.ListN.{length, set}
+use lib.ListN.{length, set, take, drop}
 use Rattle.lists.specs.Over.{over}
 
 module _ {A : Type 0} where
+  -- as many elements as both lists have, and the rest of the one that is written to
+  pub over_parts : (vs xs : List A) → take (length xs) vs ++ drop (length vs) xs ≡ over vs xs
+  unfolding over
+  over_parts [] [] = refl
+  over_parts [] (x ∷ xs) = refl
+  over_parts (v ∷ vs) [] = refl
+  over_parts (v ∷ vs) (x ∷ xs) = ap (λ (l : List A). v ∷ l) (over_parts vs xs)
+
   -- nothing is written to no list
   pub put_none : (vs xs : List A) → length xs < 1 → xs ≡ over vs xs
   unfolding over

@@ -56,29 +56,20 @@ pub struct Verdict {
     pub place: usize,
 }
 
-pub fn verdict_of(r: Refusal) -> Verdict
-    ensures { result ≡ verdict_of r }
-{
-    match r {
-        Refusal::OutOfRange => Verdict {
-            number: Meaning::OutOfRange as u32,
-            place: 0,
-        },
-        Refusal::TooManyVerbs => Verdict {
-            number: Meaning::TooManyVerbs as u32,
-            place: 0,
-        },
-        Refusal::Verb(place) => Verdict {
-            number: Meaning::MisplacedVerb as u32,
+impl From<Refusal> for Verdict {
+    ghost from_gives = { λ r v. v ≡ verdict_of r };
+
+    fn from(r: Refusal) -> Verdict {
+        let (meaning, place) = match r {
+            Refusal::OutOfRange => (Meaning::OutOfRange, 0),
+            Refusal::TooManyVerbs => (Meaning::TooManyVerbs, 0),
+            Refusal::Verb(place) => (Meaning::MisplacedVerb, place),
+            Refusal::Coordinate(place) => (Meaning::BadCoordinate, place),
+            Refusal::TooManyCuts => (Meaning::TooManyCuts, 0),
+        };
+        Verdict {
+            number: meaning as u32,
             place,
-        },
-        Refusal::Coordinate(place) => Verdict {
-            number: Meaning::BadCoordinate as u32,
-            place,
-        },
-        Refusal::TooManyCuts => Verdict {
-            number: Meaning::TooManyCuts as u32,
-            place: 0,
-        },
+        }
     }
 }
