@@ -2,7 +2,7 @@
 #![tactic(auto)]
 
 ghost use Rattle.std.specs.Prelude.{◌≡◌, ◌+◌, ◌<◌};
-ghost use Rattle.endpoint.specs.Endpoint.{id_limit, endpoint_after, vertex_after, blank_of, sign_of, side_bit, source_of, single_of, pair_of, side_count_of};
+ghost use Rattle.endpoint.specs.Endpoint.{id_limit, endpoint_after, vertex_after, blank_of, sign_of, source_of, single_of, pair_of, side_count_of};
 
 use plane::vector::Point;
 
@@ -13,7 +13,8 @@ pub struct EndpointId(pub u32);
 #[derive(Clone, Copy)]
 pub struct VertexId(pub u32);
 
-// The endpoint that comes n behind another, and the vertex that does.
+// The endpoint that comes n behind another, and the vertex that does. Two functions, as there are two types:
+// one for both would let the one number be taken for the other.
 pub fn endpoint_after(first: EndpointId, n: usize) -> EndpointId
     requires { first.0 + n < id_limit }
     ensures { result ≡ endpoint_after first n }
@@ -43,10 +44,11 @@ pub enum LineJoin {
     Round,
 }
 
+// The numbers are the bit that a vertex's record has of its side.
 #[derive(Clone, Copy)]
 pub enum Side {
-    Positive,
-    Negative,
+    Positive = 0,
+    Negative = 1,
 }
 
 // One side of a join: its one point, or its first and its second.
@@ -107,25 +109,18 @@ pub fn side_sign(side: Side) -> f32
     }
 }
 
+#[tactic(auto, unfolding(crate::specs::Endpoint::single_of))]
 pub fn single(p: Point) -> SidePoints
     ensures { result ≡ single_of p }
 {
     SidePoints::Single(p.x, p.y)
 }
 
+#[tactic(auto, unfolding(crate::specs::Endpoint::pair_of))]
 pub fn pair(p: Point, q: Point) -> SidePoints
     ensures { result ≡ pair_of p q }
 {
     SidePoints::Pair(p.x, p.y, q.x, q.y)
-}
-
-fn side_bit(side: Side) -> u32
-    ensures { result ≡ side_bit side }
-{
-    match side {
-        Side::Positive => 0,
-        Side::Negative => 1,
-    }
 }
 
 // What the record of a vertex says: the endpoint and the side that it came from.
@@ -133,7 +128,7 @@ pub fn source_of(id: EndpointId, side: Side) -> u32
     requires { id.0 < id_limit }
     ensures { result ≡ source_of id side }
 {
-    2 * id.0 + side_bit(side)
+    2 * id.0 + side as u32
 }
 
 // How many vertices a side has.

@@ -1,5 +1,5 @@
-// The window's lent calls, on a window that is handed over: it is put in a slot, the slot is lent, and
-// what the call left there is handed back. So whoever calls these makes no reference to a struct.
+// The window's lent calls, on a window that is handed over: its slot is lent, and what the call left
+// there is handed back.
 #![tactic(auto)]
 
 ghost use Rattle.std.specs.Prelude.{◌≡◌, [], ◌∷◌, ◌++◌};
@@ -9,29 +9,23 @@ use endpoint::EndpointData;
 use window::buffer::{PointBuffer, Replaced};
 use window::lent::{clear_in, push_in, replace_last_in};
 
-pub fn pushed(w: PointBuffer, e: EndpointData) -> PointBuffer
+pub fn pushed(mut w: PointBuffer, e: EndpointData) -> PointBuffer
     ensures { items result ≡ last_three (items w ++ (e ∷ [])) }
 {
-    let mut slot = w;
-    push_in(&mut slot, e);
-    slot
+    push_in(&mut w, e);
+    w
 }
 
-pub fn replaced(w: PointBuffer, e: EndpointData) -> Replaced
+pub fn replaced(mut w: PointBuffer, e: EndpointData) -> Replaced
     ensures { ReplacesLast w e result }
 {
-    let mut slot = w;
-    let change = replace_last_in(&mut slot, e);
-    Replaced {
-        change: change,
-        window: slot,
-    }
+    let change = replace_last_in(&mut w, e);
+    Replaced { change, window: w }
 }
 
-pub fn cleared(w: PointBuffer) -> PointBuffer
+pub fn cleared(mut w: PointBuffer) -> PointBuffer
     ensures { items result ≡ [] }
 {
-    let mut slot = w;
-    clear_in(&mut slot);
-    slot
+    clear_in(&mut w);
+    w
 }

@@ -1,20 +1,13 @@
 // lyon's `compute_normal`, the join's direction.
-ghost use Rattle.std.specs.Prelude.{◌&&◌, ◌≡◌};
+ghost use Rattle.std.specs.Prelude.{◌≡◌};
 ghost use Rattle.plane.specs.F32.{size_below, size_at_most};
 ghost use Rattle.plane.specs.Normal.{epsilon, two, in_domain, normal_of, normal_answer_of, compute_normal_of};
 
-use crate::vector::{Point, divided, dot, normalize, plus, square_length, turned};
+use crate::vector::{Point, dot, normalize, square_length, turned};
 use refusals::Meaning;
 
-// What `compute_normal` says: the normal, or that an operand is outside the domain (refusal 4).
-#[derive(Drop)]
-pub enum JoinDirection {
-    Normal(f32, f32),
-    Refused,
-}
-
-// The same in the terms of document 01's table.
-#[derive(Drop)]
+// The normal in the terms of document 01's table.
+#[derive(Clone, Copy)]
 pub struct NormalAnswer {
     pub number: u32,
     pub place: u32,
@@ -30,11 +23,12 @@ fn is_small(k: f32) -> bool
 
 // The normal between two edges with the unit directions v1 and v2, so long that the edges' sides
 // one unit off meet at its end.
+#[tactic(auto, unfolding(crate::specs::Normal::normal_of))]
 pub fn join_normal(v1: Point, v2: Point) -> Point
     ensures { result ≡ normal_of v1 v2 }
 {
     let n1 = turned(v1);
-    let v12 = plus(v1, v2);
+    let v12 = v1 + v2;
     if square_length(v12) < 0.0001 {
         return Point { x: 0.0, y: 0.0 };
     }
@@ -43,7 +37,7 @@ pub fn join_normal(v1: Point, v2: Point) -> Point
     if is_small(inv_len) {
         return n1;
     }
-    divided(n, inv_len)
+    n / inv_len
 }
 
 fn is_at_most_two(x: f32) -> bool
@@ -53,45 +47,42 @@ fn is_at_most_two(x: f32) -> bool
 }
 
 // No NaN is at most 2 in size, nor is an infinity.
+#[tactic(auto, unfolding(crate::specs::Normal::in_domain))]
 fn is_in_domain(v: Point) -> bool
     ensures { result ≡ in_domain v }
 {
     is_at_most_two(v.x) && is_at_most_two(v.y)
 }
 
-fn both_in_domain(v1: Point, v2: Point) -> bool
-    ensures { result ≡ (in_domain v1 && in_domain v2) }
-{
-    is_in_domain(v1) && is_in_domain(v2)
-}
-
-// `join_normal`, for any two vectors: outside the domain it is refused.
-pub fn compute_normal(v1: Point, v2: Point) -> JoinDirection
+// `join_normal`, for any two vectors: outside the domain there is none (refusal 4).
+#[tactic(auto, unfolding(crate::specs::Normal::compute_normal_of))]
+pub fn compute_normal(v1: Point, v2: Point) -> Option<Point>
     ensures { normal_answer_of result ≡ compute_normal_of v1 v2 }
 {
-    if both_in_domain(v1, v2) {
-        let n = join_normal(v1, v2);
-        return JoinDirection::Normal(n.x, n.y);
+    if is_in_domain(v1) && is_in_domain(v2) {
+        return Some(join_normal(v1, v2));
     }
-    JoinDirection::Refused
+    None
 }
 
 // The number, the place and the vector that an answer stands for.
-pub fn normal_answer_of(d: JoinDirection) -> NormalAnswer
-    ensures { result ≡ normal_answer_of d }
-{
-    match d {
-        JoinDirection::Normal(x, y) => NormalAnswer {
-            number: Meaning::Accepted as u32,
-            place: 0,
-            x: x,
-            y: y,
-        },
-        JoinDirection::Refused => NormalAnswer {
-            number: Meaning::BadCoordinate as u32,
-            place: 0,
-            x: 0.0,
-            y: 0.0,
-        },
+impl From<Option<Point>> for NormalAnswer {
+    ghost from_gives = { λ d a. a ≡ normal_answer_of d };
+
+    fn from(d: Option<Point>) -> NormalAnswer {
+        match d {
+            Some(n) => NormalAnswer {
+                number: Meaning::Accepted as u32,
+                place: 0,
+                x: n.x,
+                y: n.y,
+            },
+            None => NormalAnswer {
+                number: Meaning::BadCoordinate as u32,
+                place: 0,
+                x: 0.0,
+                y: 0.0,
+            },
+        }
     }
 }

@@ -7,13 +7,12 @@ use native.Mathlib.Decide.{dec_le}
 use native.Mathlib.Omega.{arith}
 use mathlib.Core.Bool.{true, false, not}
 use lib.Dec.{T, not_T, T_not, lit<}
-use lib.Ieee.{Float, nan, inf, fin, binary32, fits, of_bits, to_bits, is_nan, lt, ne}
+use lib.Ieee.{Float, nan, inf, fin, binary32, fits, of_bits, to_bits, is_nan, lt}
 use lib.Ieee.Bits.{of_bits-to_bits, of_bits-fits}
-use lib.Ieee.Compare.{differs_from_itself, nan_differs}
 use Rattle.root.specs.Root.{rootable, units, IsRoot, Close}
 use Rattle.root.specs.Answer.{Answers, answer_of}
 use Rattle.root.specs.Steps.{Near, Scaled, BitsRoot}
-use Rattle.root.specs.declared.Rooted.TheVariants.{Root, Refused}
+use Rattle.std.proofs.Common.{Some, None}
 use Rattle.root.proofs.Patterns.{made, refused, value_rootable, below_rootable}
 use Rattle.root.proofs.Middles.{is_root, is_close_lem}
 use Rattle.root.proofs.Units.{same_units}
@@ -115,29 +114,26 @@ module _ (x : Float) (f : T (fits binary32 x)) where
       go p (yes h) = least (units x) h
       go p (no h) = absurd (n (units→lt (of_bits binary32 0) x (of_bits-fits binary32 0) f (below_rootable 0 (lit< tt)) p (lt_of_not-le h)))
 
--- ---- x != x
-pub nan_refused : (x : Float) → T (ne x x) → T (not (rootable x))
-nan_refused x t = subst (λ (y : Float). T (not (rootable y))) (sym (differs_from_itself x t)) tt
-
-pub no_nan : (x : Float) → (T (ne x x) → ⊥) → T (not (is_nan x))
+-- ---- no NaN has a root
+pub nan_refused : (x : Float) → is_nan x ≡ true → T (not (rootable x))
 unfolding is_nan
-no_nan nan h = absurd (h (subst T (sym nan_differs) tt))
-no_nan (inf s) h = tt
-no_nan (fin s m e) h = tt
+nan_refused nan e = tt
+nan_refused (inf s) e = tt
+nan_refused (fin s m k) e = cc
 
 -- ---- the answers
-pub refuses : (x : Float) → T (not (rootable x)) → Answers x (answer_of Refused)
+pub refuses : (x : Float) → T (not (rootable x)) → Answers x (answer_of None)
 refuses x h = record { accepted = λ t. absurd (T_not (rootable x) h t); refused = λ _. refl }
 
-pub accepts : (x r : Float) → T (rootable x) → IsRoot x r → Answers x (answer_of (Root r))
+pub accepts : (x r : Float) → T (rootable x) → IsRoot x r → Answers x (answer_of (Some r))
 accepts x r p h = record { accepted = λ _. (refl, refl, h); refused = λ t. absurd (T_not (rootable x) t p) }
 
-pub zero_answer : (x : Float) → T (fits binary32 x) → to_bits binary32 x ≡ 0 → Answers x (answer_of (Root (of_bits binary32 0)))
+pub zero_answer : (x : Float) → T (fits binary32 x) → to_bits binary32 x ≡ 0 → Answers x (answer_of (Some (of_bits binary32 0)))
 zero_answer x f e =
-    subst (λ (y : Float). Answers y (answer_of (Root (of_bits binary32 0)))) (sym (zero_is x f e))
+    subst (λ (y : Float). Answers y (answer_of (Some (of_bits binary32 0)))) (sym (zero_is x f e))
     (accepts (of_bits binary32 0) (of_bits binary32 0) (below_rootable 0 (lit< tt)) zero_root)
 
-pub answer : (x : Float) (r : ℕ) → T (fits binary32 x) → to_bits binary32 x < 2139095040 → BitsRoot (to_bits binary32 x) r → Answers x (answer_of (Root (of_bits binary32 r)))
+pub answer : (x : Float) (r : ℕ) → T (fits binary32 x) → to_bits binary32 x < 2139095040 → BitsRoot (to_bits binary32 x) r → Answers x (answer_of (Some (of_bits binary32 r)))
 answer x r f h b =
-    subst (λ (y : Float). Answers y (answer_of (Root (of_bits binary32 r)))) (of_bits-to_bits binary32 x f)
+    subst (λ (y : Float). Answers y (answer_of (Some (of_bits binary32 r)))) (of_bits-to_bits binary32 x f)
     (accepts (of_bits binary32 (to_bits binary32 x)) (of_bits binary32 r) (below_rootable (to_bits binary32 x) h) b.root)

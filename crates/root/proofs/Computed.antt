@@ -14,7 +14,7 @@ use Rattle.root.specs.Answer.{zero as plus_zero}
 use Rattle.root.specs.Compute.{digit, floor_root, round_root, exponent, operand, parts_root, bits_root, root_of, root_answer}
 use Rattle.root.specs.Steps.{Floor, Near, Operands, BitsRoot}
 use Rattle.root.specs.declared.Answer.{Answer}
-use Rattle.root.specs.declared.Rooted.TheVariants.{Root, Refused}
+use Rattle.std.proofs.Common.{Some, None}
 use Rattle.root.proofs.Squares.{rounded_up, rounded_down}
 use Rattle.root.proofs.Exponents.{counted}
 use Rattle.root.proofs.Patterns.{Split, split_is}
@@ -95,7 +95,7 @@ module _ (x : Float) (f : T (fits binary32 x)) where
   root_answers : Answers x (root_answer x)
   root_answers = go (rootable x) (λ t. t) (λ t. t)
     where
-      go : (t : Bool) → (T t → T (rootable x)) → (T (not t) → T (not (rootable x))) → Answers x (answer_of (cond t (Root (root_of x)) Refused))
+      go : (t : Bool) → (T t → T (rootable x)) → (T (not t) → T (not (rootable x))) → Answers x (answer_of (cond t (Some (root_of x)) None))
       go true p n = accepts x (root_of x) (p tt) (root_is (p tt))
       go false p n = refuses x (n tt)
 
@@ -107,6 +107,6 @@ module _ (x : Float) (f : T (fits binary32 x)) where
   unfolding root_of
   value_is a h = ap (λ (b : Answer). b.value) (answers a h) ∙ same (rootable x) (cond (eqb (to_bits binary32 x) 0) x (of_bits binary32 (bits_root (to_bits binary32 x))))
     where
-      same : (t : Bool) (r : Float) → (answer_of (cond t (Root (cond t r plus_zero)) Refused)).value ≡ cond t r plus_zero
+      same : (t : Bool) (r : Float) → (answer_of (cond t (Some (cond t r plus_zero)) None)).value ≡ cond t r plus_zero
       same true r = refl
       same false r = refl

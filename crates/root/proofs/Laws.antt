@@ -11,8 +11,8 @@ use lib.Ieee.{Float, binary32, fits}
 use Rattle.root.specs.Root.{rootable, units, square, IsRoot}
 use Rattle.root.specs.Answer.{Answers, answer_of}
 use Rattle.root.specs.declared.Answer.{Answer}
-use Rattle.root.specs.declared.Rooted.{Rooted}
-use Rattle.root.specs.declared.Rooted.TheVariants.{Root, Refused}
+use Rattle.std.proofs.Common.{Option}
+use Rattle.std.proofs.Common.{Some, None}
 use Rattle.root.proofs.Units.{same_units}
 
 differ : ◌≡◌ {A = ℕ} 0 13 → ⊥
@@ -53,15 +53,15 @@ one_answer x a b h k = go (rootable x) h.accepted k.accepted h.refused k.refused
     Accepted : Answer → Type 0
     Accepted c = (c.number ≡ 0) × (c.place ≡ 0) × IsRoot x c.value
 
-    go : (t : Bool) → (T t → Accepted a) → (T t → Accepted b) → (T (not t) → a ≡ answer_of Refused) → (T (not t) → b ≡ answer_of Refused) → a ≡ b
+    go : (t : Bool) → (T t → Accepted a) → (T t → Accepted b) → (T (not t) → a ≡ answer_of None) → (T (not t) → b ≡ answer_of None) → a ≡ b
     go true p q _ _ = let f = p tt in let g = q tt in same (f.0 ∙ sym g.0) (f.1 ∙ sym g.1) (unique x a.value b.value f.2 g.2)
     go false _ _ p q = p tt ∙ sym (q tt)
 
-pub one_case : (a b : Rooted) → answer_of a ≡ answer_of b → a ≡ b
-one_case (Root r) (Root q) e = ap Root (ap (λ (c : Answer). c.value) e)
-one_case (Root r) Refused e = absurd (differ (ap (λ (c : Answer). c.number) e))
-one_case Refused (Root q) e = absurd (differ (sym (ap (λ (c : Answer). c.number) e)))
-one_case Refused Refused e = refl
+pub one_case : (a b : Option Float) → answer_of a ≡ answer_of b → a ≡ b
+one_case (Some r) (Some q) e = ap Some (ap (λ (c : Answer). c.value) e)
+one_case (Some r) None e = absurd (differ (ap (λ (c : Answer). c.number) e))
+one_case None (Some q) e = absurd (differ (sym (ap (λ (c : Answer). c.number) e)))
+one_case None None e = refl
 
 -- ---- a square has its root
 pub exact : (x r : Float) → T (fits binary32 r) → T (rootable r) → units r * units r ≡ square x → IsRoot x r

@@ -1,6 +1,6 @@
 -- The root as a function that computes, for closed examples and for the definitions of the layers above. proofs/Computed.antt joins it to
 -- the meaning: `IsRoot x (root_of x)`, and what `root` answers is `root_answer x`. Assumes nothing.
-use Rattle.std.specs.Prelude.{ℕ, zero, suc, ◌+◌, ◌-◌, ◌*◌, ◌/◌, ◌%◌, ◌^◌, cond, leb, ltb, eqb, Float}
+use Rattle.std.specs.Prelude.{ℕ, zero, suc, ◌+◌, ◌-◌, ◌*◌, ◌/◌, ◌%◌, ◌^◌, cond, leb, ltb, eqb, Float, Some, None}
 use Rattle.std.specs.Int.Count.{count_leading_zeros}
 use Rattle.std.specs.Float.{binary32}
 use Rattle.std.specs.Float.Ieee.{of_bits, to_bits}
@@ -8,7 +8,6 @@ use Rattle.root.specs.Root.{rootable}
 use Rattle.root.specs.Answer.{answer_of}
 use Rattle.root.specs.Answer.{zero as plus_zero}
 use Rattle.root.specs.declared.Answer.{Answer}
-use Rattle.root.specs.declared.Rooted.TheVariants.{Root, Refused}
 
 -- the whole part of the root of an n below 4 ^ k, digit by digit
 abbrev pub digit : ℕ → ℕ → ℕ
@@ -44,4 +43,4 @@ root_of x = cond (rootable x) (cond (eqb (to_bits binary32 x) 0) x (of_bits bina
 
 -- what `root` answers
 abbrev pub root_answer : Float → Answer
-root_answer x = answer_of (cond (rootable x) (Root (root_of x)) Refused)
+root_answer x = answer_of (cond (rootable x) (Some (root_of x)) None)

@@ -10,15 +10,8 @@ ghost use Rattle.root.specs.Answer.{Answers, answer_of};
 use pattern::{INFINITY, root_bits};
 use refusals::Meaning;
 
-// What `root` says: the root, or that there is none (refusal 13).
-#[derive(Drop)]
-pub enum Rooted {
-    Root(f32),
-    Refused,
-}
-
-// The same in the terms of document 01's table.
-#[derive(Drop)]
+// The root in the terms of document 01's table.
+#[derive(Clone, Copy)]
 pub struct Answer {
     pub number: u32,
     pub place: u32,
@@ -26,41 +19,43 @@ pub struct Answer {
 }
 
 // The f32 nearest to the exact root, for +0 and every finite positive f32. A negative, -0, an
-// infinity and a NaN are refused.
-pub fn root(x: f32) -> Rooted
+// infinity and a NaN are refused (refusal 13): they have none.
+pub fn root(x: f32) -> Option<f32>
     ensures { Answers x (answer_of result) }
 {
     // No NaN is above zero, so this test is the only one that most calls make.
     if x > 0.0 {
-        let b = f32::to_bits(x);
+        let b = x.to_bits();
         if b == INFINITY {
-            return Rooted::Refused;
+            return None;
         }
-        return Rooted::Root(f32::from_bits(root_bits(b)));
+        return Some(f32::from_bits(root_bits(b)));
     }
-    if x != x {
-        return Rooted::Refused;
+    if x.is_nan() {
+        return None;
     }
-    if f32::to_bits(x) == 0 {
-        return Rooted::Root(0.0);
+    if x.to_bits() == 0 {
+        return Some(0.0);
     }
-    Rooted::Refused
+    None
 }
 
 // The number, the place and the value that an answer stands for.
-pub fn answer_of(r: Rooted) -> Answer
-    ensures { result ≡ answer_of r }
-{
-    match r {
-        Rooted::Root(value) => Answer {
-            number: Meaning::Accepted as u32,
-            place: 0,
-            value: value,
-        },
-        Rooted::Refused => Answer {
-            number: Meaning::NoRoot as u32,
-            place: 0,
-            value: 0.0,
-        },
+impl From<Option<f32>> for Answer {
+    ghost from_gives = { λ r a. a ≡ answer_of r };
+
+    fn from(r: Option<f32>) -> Answer {
+        match r {
+            Some(value) => Answer {
+                number: Meaning::Accepted as u32,
+                place: 0,
+                value,
+            },
+            None => Answer {
+                number: Meaning::NoRoot as u32,
+                place: 0,
+                value: 0.0,
+            },
+        }
     }
 }

@@ -24,9 +24,7 @@ fn digits(n: u64) -> u64
     ensures { Digits n result 0 }
 {
     let mut w = ((n - 0x4000_0000_0000) << 11) + 5;
-    let mut place: u32 = 23;
-    while place > 0 {
-        place = place - 1;
+    for place in (0..23).rev() {
         w = digit(w, place);
     }
     w

@@ -9,7 +9,7 @@ use Rattle.endpoint.specs.declared.EndpointData.{EndpointData}
 use Rattle.window.specs.Answer.{get_answer_of, got_of}
 use Rattle.window.specs.Window.{last_three, last_replaced}
 use Rattle.window.specs.declared.answer.GetAnswer.{GetAnswer}
-use Rattle.window.specs.declared.answer.Got.TheVariants.{Found, Refused}
+use Rattle.std.proofs.Common.{Some, None}
 
 -- the endpoint k: at (k, 0), with advancement k and the number k, otherwise blank; x is the pattern of k
 abbrev endpoint : ℕ → ℕ → EndpointData
@@ -62,10 +62,10 @@ pub record Case : Type 0 where
   pub answers : List GetAnswer
 
 abbrev found : EndpointData → GetAnswer
-found e = get_answer_of (Found e)
+found e = get_answer_of (Some e)
 
 abbrev refused : GetAnswer
-refused = get_answer_of Refused
+refused = get_answer_of None
 
 pub read : List EndpointData → List GetAnswer
 read xs = map (got_of xs) (0 ∷ 1 ∷ 2 ∷ 3 ∷ [])

@@ -9,10 +9,8 @@ use lib.Seq.{drop-append-le}
 use Rattle.endpoint.specs.declared.EndpointData.{EndpointData}
 use Rattle.window.specs.Answer.{get_answer_of, change_answer_of, got_of, replaced_answer_of}
 use Rattle.window.specs.Window.{items, last_three, last_replaced, ReplacesLast}
-use Rattle.window.specs.declared.answer.Got.{Got}
-use Rattle.window.specs.declared.answer.Got.TheVariants.{Found, Refused}
-use Rattle.window.specs.declared.answer.Change.{Change}
-use Rattle.window.specs.declared.answer.Change.TheVariants as change
+use Rattle.std.proofs.Common.{Option, Some, None, Result, Ok, Err}
+use Rattle.window.specs.declared.answer.Empty.{Empty}
 use Rattle.window.specs.declared.answer.ChangeAnswer.{ChangeAnswer}
 use Rattle.window.specs.declared.answer.GetAnswer.{GetAnswer}
 use Rattle.window.specs.declared.buffer.PointBuffer.{PointBuffer}
@@ -43,37 +41,37 @@ module _ {A : Type 0} where
   last_replaced_snoc (y ∷ z ∷ xs) x e = ap (λ (l : List A). y ∷ l) (last_replaced_snoc (z ∷ xs) x e)
 
 -- ---- what is read
-pub got_of_found : (xs : List EndpointData) (i : ℕ) (d : EndpointData) → i < length xs → got_of xs i ≡ get_answer_of (Found (get_or xs i d))
+pub got_of_found : (xs : List EndpointData) (i : ℕ) (d : EndpointData) → i < length xs → got_of xs i ≡ get_answer_of (Some (get_or xs i d))
 unfolding got_of
 got_of_found [] i d h = absurd (omega arith)
 got_of_found (x ∷ xs) zero d h = refl
 got_of_found (x ∷ xs) (suc i) d h = got_of_found xs i d (omega arith)
 
 -- at or past the count
-pub got_of_past : (xs : List EndpointData) (i : ℕ) → length xs ≤ i → got_of xs i ≡ get_answer_of Refused
+pub got_of_past : (xs : List EndpointData) (i : ℕ) → length xs ≤ i → got_of xs i ≡ get_answer_of None
 unfolding got_of
 got_of_past [] i h = refl
 got_of_past (x ∷ xs) zero h = absurd (omega arith)
 got_of_past (x ∷ xs) (suc i) h = got_of_past xs i (omega arith)
 
 -- ---- what replacing the last answers
-pub replaced_answer_of_some : (xs : List EndpointData) → 0 < length xs → replaced_answer_of xs ≡ change_answer_of change.Done
+pub replaced_answer_of_some : (xs : List EndpointData) → 0 < length xs → replaced_answer_of xs ≡ change_answer_of (Ok tt)
 unfolding replaced_answer_of
 replaced_answer_of_some [] h = absurd (omega arith)
 replaced_answer_of_some (x ∷ xs) h = refl
 
 -- ---- one outcome: of two that a contract allows the answers are the same, and the windows hold the same
-pub one_got : (g h : Got) → get_answer_of g ≡ get_answer_of h → g ≡ h
-one_got (Found e) (Found f) p = ap (λ (a : GetAnswer). Found a.endpoint) p
-one_got (Found e) Refused p = absurd (let n = ap (λ (a : GetAnswer). a.number) p in omega arith)
-one_got Refused (Found f) p = absurd (let n = ap (λ (a : GetAnswer). a.number) p in omega arith)
-one_got Refused Refused p = refl
+pub one_got : (g h : Option EndpointData) → get_answer_of g ≡ get_answer_of h → g ≡ h
+one_got (Some e) (Some f) p = ap (λ (a : GetAnswer). Some a.endpoint) p
+one_got (Some e) None p = absurd (let n = ap (λ (a : GetAnswer). a.number) p in omega arith)
+one_got None (Some f) p = absurd (let n = ap (λ (a : GetAnswer). a.number) p in omega arith)
+one_got None None p = refl
 
-pub one_change : (c d : Change) → change_answer_of c ≡ change_answer_of d → c ≡ d
-one_change change.Done change.Done p = refl
-one_change change.Done change.Refused p = absurd (let n = ap (λ (a : ChangeAnswer). a.number) p in omega arith)
-one_change change.Refused change.Done p = absurd (let n = ap (λ (a : ChangeAnswer). a.number) p in omega arith)
-one_change change.Refused change.Refused p = refl
+pub one_change : (c d : Result Unit Empty) → change_answer_of c ≡ change_answer_of d → c ≡ d
+one_change (Ok u) (Ok v) p = refl
+one_change (Ok u) (Err e) p = absurd (let n = ap (λ (a : ChangeAnswer). a.number) p in omega arith)
+one_change (Err e) (Ok u) p = absurd (let n = ap (λ (a : ChangeAnswer). a.number) p in omega arith)
+one_change (Err e) (Err f) p = refl
 
 pub one_replaced : (w : PointBuffer) (e : EndpointData) (r s : Replaced) → ReplacesLast w e r → ReplacesLast w e s
     → (r.change ≡ s.change) × (items r.window ≡ items s.window)

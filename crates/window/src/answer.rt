@@ -5,64 +5,58 @@ ghost use Rattle.window.specs.Answer.{get_answer_of, change_answer_of};
 use endpoint::{EndpointData, blank};
 use refusals::Meaning;
 
-// What `get` says: the endpoint, or that there is none there (refusal 12).
-#[derive(Drop)]
-pub enum Got {
-    Found(EndpointData),
-    Refused,
-}
+// There is no last to replace (refusal 12).
+#[derive(Clone, Copy)]
+pub struct Empty;
 
-// What `replace_last` says: that it is done, or that there is no last (refusal 12).
-#[derive(Drop)]
-pub enum Change {
-    Done,
-    Refused,
-}
-
-// The same in the terms of document 01's table, of `get` and of `replace_last`.
-#[derive(Drop)]
+// What `get` and `replace_last` say, in the terms of document 01's table.
+#[derive(Clone, Copy)]
 pub struct GetAnswer {
     pub number: u32,
     pub place: u32,
     pub endpoint: EndpointData,
 }
 
-#[derive(Drop)]
+#[derive(Clone, Copy)]
 pub struct ChangeAnswer {
     pub number: u32,
     pub place: u32,
 }
 
 // The number, the place and the endpoint that an answer of `get` stands for.
-pub fn get_answer_of(g: Got) -> GetAnswer
-    ensures { result ≡ get_answer_of g }
-{
-    match g {
-        Got::Found(e) => GetAnswer {
-            number: Meaning::Accepted as u32,
-            place: 0,
-            endpoint: e,
-        },
-        Got::Refused => GetAnswer {
-            number: Meaning::WindowRefused as u32,
-            place: 0,
-            endpoint: blank(),
-        },
+impl From<Option<EndpointData>> for GetAnswer {
+    ghost from_gives = { λ g a. a ≡ get_answer_of g };
+
+    fn from(g: Option<EndpointData>) -> GetAnswer {
+        match g {
+            Some(endpoint) => GetAnswer {
+                number: Meaning::Accepted as u32,
+                place: 0,
+                endpoint,
+            },
+            None => GetAnswer {
+                number: Meaning::WindowRefused as u32,
+                place: 0,
+                endpoint: blank(),
+            },
+        }
     }
 }
 
 // The number and the place that an answer of `replace_last` stands for.
-pub fn change_answer_of(c: Change) -> ChangeAnswer
-    ensures { result ≡ change_answer_of c }
-{
-    match c {
-        Change::Done => ChangeAnswer {
-            number: Meaning::Accepted as u32,
-            place: 0,
-        },
-        Change::Refused => ChangeAnswer {
-            number: Meaning::WindowRefused as u32,
-            place: 0,
-        },
+impl From<Result<(), Empty>> for ChangeAnswer {
+    ghost from_gives = { λ c a. a ≡ change_answer_of c };
+
+    fn from(c: Result<(), Empty>) -> ChangeAnswer {
+        match c {
+            Ok(()) => ChangeAnswer {
+                number: Meaning::Accepted as u32,
+                place: 0,
+            },
+            Err(Empty) => ChangeAnswer {
+                number: Meaning::WindowRefused as u32,
+                place: 0,
+            },
+        }
     }
 }

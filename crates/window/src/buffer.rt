@@ -3,11 +3,12 @@ ghost use Rattle.std.specs.Prelude.{◌≡◌, [], ◌∷◌, ◌++◌, ◌+◌,
 ghost use Rattle.window.specs.Answer.{get_answer_of, got_of};
 ghost use Rattle.window.specs.Window.{items, last_three, ReplacesLast};
 
-use crate::answer::{Change, Got};
+use crate::answer::Empty;
 use endpoint::{EndpointData, blank};
 
 // Three slots used in turn, the oldest endpoint in slot `start`. The contracts hold whatever `start`
 // and `count` are, and speak of `items`: two windows with the same items are the same to callers.
+// Slots with a start and a count, as lyon has them: a list of its own length would be on the heap.
 #[derive(Clone, Copy)]
 pub struct PointBuffer {
     points: [EndpointData; 3],
@@ -16,9 +17,9 @@ pub struct PointBuffer {
 }
 
 // `replace_last` gives the window back beside its answer.
-#[derive(Drop)]
+#[derive(Clone, Copy)]
 pub struct Replaced {
-    pub change: Change,
+    pub change: Result<(), Empty>,
     pub window: PointBuffer,
 }
 
@@ -30,12 +31,12 @@ fn slot(start: usize, i: usize) -> usize
 }
 
 impl PointBuffer {
+    #[tactic(auto, unfolding(crate::specs::Window::held))]
     pub fn new() -> PointBuffer
         ensures { items result ≡ [] }
     {
-        let e = blank();
         PointBuffer {
-            points: [e; 3],
+            points: [blank(); 3],
             start: 0,
             count: 0,
         }
@@ -45,63 +46,61 @@ impl PointBuffer {
     pub fn count(self) -> usize
         ensures { result ≡ length (items self) }
     {
-        let n = self.count;
-        if n < 3 { n } else { 3 }
+        self.count.min(3)
     }
 
     // The oldest of three gives way: in a full window the slot after the newest is the oldest's.
-    pub fn push(self, e: EndpointData) -> PointBuffer
+    pub fn push(mut self, e: EndpointData) -> PointBuffer
         ensures { items result ≡ last_three (items self ++ (e ∷ [])) }
     {
         let n = self.count();
         let at = slot(self.start, n);
-        let mut w = self;
-        w.points[at] = e;
+        self.points[at] = e;
         if n < 3 {
-            w.count = n + 1;
-            return w;
+            self.count = n + 1;
+        } else {
+            self.start = slot(self.start, 1);
         }
-        w.start = slot(w.start, 1);
-        w
+        self
     }
 
     // In an empty window there is no last: it is refused, and the window stays as it is.
-    pub fn replace_last(self, e: EndpointData) -> Replaced
+    pub fn replace_last(mut self, e: EndpointData) -> Replaced
         ensures { ReplacesLast self e result }
     {
         let n = self.count();
-        let mut w = self;
         if n == 0 {
             return Replaced {
-                change: Change::Refused,
-                window: w,
+                change: Err(Empty),
+                window: self,
             };
         }
-        let at = slot(w.start, n - 1);
-        w.points[at] = e;
+        let at = slot(self.start, n - 1);
+        self.points[at] = e;
         Replaced {
-            change: Change::Done,
-            window: w,
+            change: Ok(()),
+            window: self,
         }
     }
 
+    #[tactic(auto, unfolding(crate::specs::Window::held))]
     pub fn clear(self) -> PointBuffer
         ensures { items result ≡ [] }
     {
-        let mut w = self;
-        w.start = 0;
-        w.count = 0;
-        w
+        PointBuffer {
+            start: 0,
+            count: 0,
+            ..self
+        }
     }
 
     // The endpoint that came i after the oldest.
-    pub fn get(self, i: usize) -> Got
+    pub fn get(self, i: usize) -> Option<EndpointData>
         ensures { get_answer_of result ≡ got_of (items self) i }
     {
         if i < self.count() {
-            let at = slot(self.start, i);
-            return Got::Found(self.points[at]);
+            return Some(self.points[slot(self.start, i)]);
         }
-        Got::Refused
+        None
     }
 }

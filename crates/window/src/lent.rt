@@ -2,22 +2,20 @@
 ghost use Rattle.std.specs.Prelude.{◌≡◌, [], ◌∷◌, ◌++◌};
 ghost use Rattle.window.specs.Window.{items, last_three, ReplacesLast};
 
-use crate::answer::Change;
+use crate::answer::Empty;
 use crate::buffer::PointBuffer;
 use endpoint::EndpointData;
 
 pub fn push_in(w: &mut PointBuffer, e: EndpointData)
     ensures { items w.new ≡ last_three (items w.old ++ (e ∷ [])) }
 {
-    let v = *w;
-    *w = v.push(e);
+    *w = w.push(e);
 }
 
-pub fn replace_last_in(w: &mut PointBuffer, e: EndpointData) -> Change
+pub fn replace_last_in(w: &mut PointBuffer, e: EndpointData) -> Result<(), Empty>
     ensures { ReplacesLast w.old e (record { change = result; window = w.new }) }
 {
-    let v = *w;
-    let r = v.replace_last(e);
+    let r = w.replace_last(e);
     *w = r.window;
     r.change
 }
@@ -25,6 +23,5 @@ pub fn replace_last_in(w: &mut PointBuffer, e: EndpointData) -> Change
 pub fn clear_in(w: &mut PointBuffer)
     ensures { items w.new ≡ [] }
 {
-    let v = *w;
-    *w = v.clear();
+    *w = w.clear();
 }

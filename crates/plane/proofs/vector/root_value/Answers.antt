@@ -1,23 +1,17 @@
--- `plane::vector::root_value` meets its contract. Assumes nothing.
-use mathlib.Core.Path.{sym, subst}
-use Rattle.root.specs.Answer.{Answers, answer_of}
-use Rattle.root.specs.declared.Rooted.{Rooted}
-use Rattle.root.proofs.Computed.{value_is}
-use lib.Ieee.{binary32, fits, of_bits}
+-- `plane::vector::root_value` meets its contract: refusal 13 gives +0. Assumes nothing.
+use mathlib.Core.Path.{◌≡◌, refl, sym, ◌∙◌, subst}
 use lib.Dec.{T}
-use Rattle.plane.proofs.vector.root_value.Goals.{Start}
+use lib.Ieee.{Float, binary32, of_bits}
+use Rattle.std.proofs.Common.{Option, Some, None}
+use Rattle.std.specs.Option.{unwrap_or}
+use Rattle.root.specs.Answer.{answer_of}
+use Rattle.root.proofs.Computed.{value_is}
 use Rattle.plane.proofs.vector.root_value.Goals as goal
 
-held : (c : Start) → T (fits binary32 c.args.x)
-held c = subst T (sym c.well_formed.0.1) tt
-
-pub returns-in-Root : goal.returns-in-Root
-returns-in-Root c =
-    let x = c.args.x in
-    value_is x (held (goal.at.returns-in-Root c).Start) _ (subst (λ (q : Rooted). Answers x (answer_of q)) c.in-Root.is c.root.ensures)
-
-pub returns-in-Refused : goal.returns-in-Refused
+value_of : (r : Option Float) → unwrap_or r (of_bits binary32 0) ≡ (answer_of r).value
 unfolding of_bits
-returns-in-Refused c =
-    let x = c.args.x in
-    value_is x (held (goal.at.returns-in-Refused c).Start) _ (subst (λ (q : Rooted). Answers x (answer_of q)) c.in-Refused.is c.root.ensures)
+value_of (Some x) = refl
+value_of None = refl
+
+pub returns : goal.returns
+returns c = c.unwrap_or.ensures ∙ value_of c.root.result ∙ value_is c.args.x (subst T (sym c.well_formed.0.1) tt) _ c.root.ensures

@@ -1,9 +1,6 @@
 -- `root::whole::digit` meets its contract. Assumes nothing.
-use Rattle.root.proofs.Digits.{positive, word_one, word_zero}
+use Rattle.root.proofs.Digits.{word_one, word_zero}
 use Rattle.root.proofs.whole.digit.Goals as goal
-
-pub overflow_sub-zero : goal.overflow_sub-zero
-overflow_sub-zero c = positive _ _ _ c.requires.1
 
 pub returns-then-t-one : goal.returns-then-t-one
 returns-then-t-one c = λ n D. word_one n _ _ D c.if-t-one.true

@@ -3,10 +3,5 @@ use native.Mathlib.Omega.{arith}
 use Rattle.window.proofs.Slots.{length_held}
 use Rattle.window.proofs.buffer.PointBuffer.count.Goals as goal
 
-pub returns-then-n-lt3 : goal.returns-then-n-lt3
-returns-then-n-lt3 c =
-    omega (arith, length_held c.args.self c.well_formed.0.1.1.0.1.0.1)
-
-pub returns-else-n-lt3 : goal.returns-else-n-lt3
-returns-else-n-lt3 c =
-    omega (arith, length_held c.args.self c.well_formed.0.1.1.0.1.0.1)
+pub returns : goal.returns
+returns c = omega (arith, length_held c.args.self c.well_formed.0.1.1.0.1.0.1)

@@ -13,7 +13,7 @@ returns-then-i-count c =
     let w = c.args.self in
     let h : c.args.i < length (items w) = omega arith in
     let three = c.well_formed.0.1.1.0.1.0.1 in
-    rw (← get_d_held w three _ c.args.i c.slot-at.result h c.slot-at.ensures)
+    rw (← get_d_held w three _ c.args.i c.slot.result h c.slot.ensures)
     (sym (got_of_found (items w) c.args.i _ h))
 
 pub returns : goal.returns

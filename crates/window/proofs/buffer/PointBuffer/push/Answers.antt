@@ -8,8 +8,8 @@ returns-then-n-lt3 c =
     let three = c.well_formed.0.1.1.0.1.0.1 in
     pushed_room c.args.self three c.args.e c.count-n.ensures c.slot-at.ensures c.if-n-lt3.true
 
-pub returns : goal.returns
-returns c =
+pub returns-else-n-lt3 : goal.returns-else-n-lt3
+returns-else-n-lt3 c =
     let three = c.well_formed.0.1.1.0.1.0.1 in
     pushed_full c.args.self three c.args.e c.count-n.ensures c.slot-at.ensures c.slot.ensures
     c.if-n-lt3.false
