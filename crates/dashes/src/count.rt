@@ -7,25 +7,22 @@ ghost use Rattle.dashes.specs.Pattern.{index_limit};
 use crate::spot::{Spot, falls, passed};
 
 // The cuts that were passed on an edge, and the spot behind them.
-#[derive(Drop)]
+#[derive(Clone, Copy)]
 pub struct Passed {
     pub spot: Spot,
     pub count: usize,
 }
 
 // It stops at one more than is accepted: a cut that does not rise falls on the edge for ever.
-pub fn count_edge(ds: &[f32], spot: Spot) -> Passed
+pub fn count_edge(ds: &[f32], mut spot: Spot) -> Passed
     requires { (0 < length ds.now) × (spot.beat.index + cuts_enough ≤ index_limit) }
     ensures { EdgeCounted ds.now spot result }
 {
-    let mut s = spot;
-    let mut n: usize = 0;
-    while n < 65537 {
-        if !falls(s) {
-            return Passed { spot: s, count: n };
+    for count in 0..65537 {
+        if !falls(spot) {
+            return Passed { spot, count };
         }
-        s = passed(ds, s);
-        n += 1;
+        spot = passed(ds, spot);
     }
-    Passed { spot: s, count: n }
+    Passed { spot, count: 65537 }
 }

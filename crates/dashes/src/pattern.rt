@@ -1,9 +1,9 @@
 // The lengths of a dash pattern, and its cuts as advancements.
 ghost use Rattle.std.specs.Prelude.{◌≡◌, ◌<◌, length};
-ghost use Rattle.dashes.specs.Pattern.{length_in, offset_in, lengths_in, pattern_in, length_at, Dash, worn_of, first_cut, next_cut, index_limit};
+ghost use Rattle.dashes.specs.Pattern.{length_in, offset_in, pattern_in, length_at, Dash, worn_of, first_cut, next_cut, index_limit};
 
 // What wearing the offset down leaves: the number of the first length that is not used up, and what is taken of it.
-#[derive(Drop)]
+#[derive(Clone, Copy)]
 pub struct Wear {
     pub index: usize,
     pub rest: f32,
@@ -28,31 +28,11 @@ fn is_offset(o: f32) -> bool
     0.0 <= o && o <= 32768.0
 }
 
-fn are_lengths(ds: &[f32]) -> bool
-    ensures { result ≡ lengths_in ds.now }
-{
-    let mut i: usize = 0;
-    while i < ds.len() {
-        let d = ds[i];
-        if !is_length(d) {
-            return false;
-        }
-        i += 1;
-    }
-    true
-}
-
 // Refusal 1 where it is false. An empty list means no dashes, and its offset has the same range.
 pub fn is_pattern(ds: &[f32], offset: f32) -> bool
     ensures { result ≡ pattern_in ds.now offset }
 {
-    if ds.len() > 16 {
-        return false;
-    }
-    if !is_offset(offset) {
-        return false;
-    }
-    are_lengths(ds)
+    ds.len() <= 16 && is_offset(offset) && ds.iter().all(|d| is_length(*d))
 }
 
 // Length number i, the list taken over and over: twice over is the same again.
@@ -60,8 +40,7 @@ pub fn length_at(ds: &[f32], i: usize) -> f32
     requires { 0 < length ds.now }
     ensures { result ≡ length_at ds.now i }
 {
-    let j = i % ds.len();
-    ds[j]
+    ds[i % ds.len()]
 }
 
 // Whether length number i is a dash, and not a gap: an odd list is taken twice over, so no list's length matters.
@@ -76,22 +55,17 @@ pub fn worn(ds: &[f32], offset: f32) -> Wear
     requires { 0 < length ds.now }
     ensures { result ≡ worn_of ds.now offset }
 {
-    let mut i: usize = 0;
     let mut rest = offset;
-    while i < 131072 {
-        let d = length_at(ds, i);
+    for index in 0..131072 {
+        let d = length_at(ds, index);
         if !(d <= rest) {
-            return Wear {
-                index: i,
-                rest: rest,
-            };
+            return Wear { index, rest };
         }
-        rest = rest - d;
-        i += 1;
+        rest -= d;
     }
     Wear {
-        index: i,
-        rest: rest,
+        index: 131072,
+        rest,
     }
 }
 
@@ -100,10 +74,9 @@ pub fn first_cut(ds: &[f32], w: Wear) -> Beat
     requires { 0 < length ds.now }
     ensures { result ≡ first_cut ds.now w }
 {
-    let i = w.index;
     Beat {
-        index: i,
-        at: length_at(ds, i) - w.rest,
+        index: w.index,
+        at: length_at(ds, w.index) - w.rest,
     }
 }
 
@@ -112,9 +85,9 @@ pub fn next_cut(ds: &[f32], b: Beat) -> Beat
     requires { (0 < length ds.now) × (b.index < index_limit) }
     ensures { result ≡ next_cut ds.now b }
 {
-    let i = b.index + 1;
+    let index = b.index + 1;
     Beat {
-        index: i,
-        at: b.at + length_at(ds, i),
+        index,
+        at: b.at + length_at(ds, index),
     }
 }

@@ -18,29 +18,29 @@ pub struct Spot {
     pub beat: Beat,
 }
 
+// What comes next on an edge: a cut, or its end.
+#[derive(Clone, Copy)]
+pub enum Mark {
+    Cut(Endpoint),
+    Corner(Endpoint),
+}
+
 // Whether the cut falls on the edge: at its end it is the next edge's.
 pub fn falls(s: Spot) -> bool
     ensures { result ≡ falls_on s }
 {
-    let b = s.beat;
-    s.start <= b.at && b.at < s.end
+    s.start <= s.beat.at && s.beat.at < s.end
 }
 
 // Where the cut falls. Its number is that of the edge's start.
 pub fn cut_of(s: Spot) -> Endpoint
     ensures { result ≡ cut_of s }
 {
-    let b = s.beat;
-    let from = s.from;
-    let to = s.to;
-    let id = from.id;
-    let share = (b.at - s.start) / (s.end - s.start);
+    let from = s.from.position;
+    let share = (s.beat.at - s.start) / (s.end - s.start);
     Endpoint {
-        position: plus(
-            from.position,
-            times(minus(to.position, from.position), share),
-        ),
-        id: id,
+        position: plus(from, times(minus(s.to.position, from), share)),
+        id: s.from.id,
     }
 }
 
@@ -49,15 +49,9 @@ pub fn passed(ds: &[f32], s: Spot) -> Spot
     requires { (0 < lists.length ds.now) × (s.beat.index < index_limit) }
     ensures { result ≡ passed_of ds.now s }
 {
-    let from = s.from;
-    let to = s.to;
-    let beat = next_cut(ds, s.beat);
     Spot {
-        from: from,
-        to: to,
-        start: s.start,
-        end: s.end,
-        beat: beat,
+        beat: next_cut(ds, s.beat),
+        ..s
     }
 }
 
@@ -65,12 +59,11 @@ pub fn passed(ds: &[f32], s: Spot) -> Spot
 pub fn spot_of(a: Endpoint, a0: f32, p: Endpoint, b: Beat) -> Spot
     ensures { result ≡ spot_of a a0 p b }
 {
-    let end = a0 + length(minus(p.position, a.position));
     Spot {
         from: a,
         to: p,
         start: a0,
-        end: end,
+        end: a0 + length(minus(p.position, a.position)),
         beat: b,
     }
 }

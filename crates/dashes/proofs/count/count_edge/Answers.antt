@@ -5,23 +5,22 @@ use native.Mathlib.Omega.{arith}
 use Rattle.dashes.proofs.Looping.{counting_none, counting_one, counting_stop, counting_all, counted}
 use Rattle.dashes.proofs.count.count_edge.Goals as goal
 
-pub loop-n-init : goal.loop-n-init
-loop-n-init c = counting_none _ _ _
+pub loop-count-init : goal.loop-count-init
+loop-count-init c = counting_none _ _ _
 
 pub returns-then-not-falls : goal.returns-then-not-falls
 returns-then-not-falls c =
-    let l = c.loop-n in
+    let l = c.loop-count in
     let stops = sym c.falls.ensures ∙ c.if-not-falls.true in
-    counted _ _ _ _ l.invariant.reached l.invariant.index (counting_stop _ _ _ _ _ l.invariant c.loop-n-test.true stops)
+    counted _ _ _ _ l.invariant.reached l.invariant.index (counting_stop _ _ _ _ _ l.invariant (omega arith) stops)
 
-pub passed-s-requires : goal.passed-s-requires
-passed-s-requires c = omega (arith, c.requires, c.loop-n.invariant.index, c.loop-n-test.true)
-
-pub loop-n-preserved : goal.loop-n-preserved
-loop-n-preserved c =
-    let l = c.loop-n in
+pub loop-count-preserved : goal.loop-count-preserved
+loop-count-preserved c =
+    let l = c.loop-count in
     let falls = sym c.falls.ensures ∙ c.if-not-falls.false in
-    rw c.passed-s.ensures (counting_one _ _ _ _ _ l.invariant c.loop-n-test.true falls)
+    rw c.passed-spot.ensures (counting_one _ _ _ _ _ l.invariant (omega arith) falls)
 
 pub returns : goal.returns
-returns c = counted _ _ _ _ c.loop-n.invariant.reached c.loop-n.invariant.index (counting_all _ _ _ _ _ c.loop-n.invariant c.loop-n-test.false)
+returns c =
+    let l = c.loop-count in
+    counted _ _ _ _ (omega arith) (omega (arith, l.invariant.index, c.loop-count-test.false)) (counting_all _ _ _ _ _ l.invariant c.loop-count-test.false)

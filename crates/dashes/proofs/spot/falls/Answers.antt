@@ -2,10 +2,10 @@
 use Rattle.dashes.specs.Marks.{falls_on}
 use Rattle.dashes.proofs.spot.falls.Goals as goal
 
-pub returns-then-s-b : goal.returns-then-s-b
+pub returns-then-s : goal.returns-then-s
 unfolding falls_on
-returns-then-s-b c = rw c.if-s-b.true
+returns-then-s c = rw c.if-s.true
 
-pub returns-else-s-b : goal.returns-else-s-b
+pub returns-else-s : goal.returns-else-s
 unfolding falls_on
-returns-else-s-b c = rw c.if-s-b.false
+returns-else-s c = rw c.if-s.false

@@ -4,4 +4,4 @@ use Rattle.dashes.proofs.spot.passed.Goals as goal
 
 pub returns : goal.returns
 unfolding passed_of
-returns c = rw c.next_cut-beat.ensures
+returns c = rw c.next_cut.ensures
