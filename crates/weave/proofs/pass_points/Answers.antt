@@ -26,12 +26,6 @@ pass_point-w-requires c =
     rw c.endpoint_at-c.ensures
     (visit_has a.s.sure a.pass a.r a.p.now a.s.first.0 l.i (omega (arith, c.loop-i-test.true)) l.w l.invariant.0 c.requires.weave_fits)
 
-pub overflow_add-i : goal.overflow_add-i
-overflow_add-i c = omega (arith, c.loop-i-test.true, c.requires.p_bound)
-
-pub loop-i-smaller : goal.loop-i-smaller
-loop-i-smaller c = omega (arith, c.loop-i-test.true)
-
 pub loop-i-preserved : goal.loop-i-preserved
 loop-i-preserved c =
     let l = c.loop-i in
