@@ -14,7 +14,7 @@ use Rattle.weave.proofs.Turns.{visit_has, visit_turn}
 use Rattle.weave.proofs.pass_points.Goals as goal
 
 pub loop-i-init : goal.loop-i-init
-loop-i-init c = (midway_start, refl, refl, refl, refl)
+loop-i-init c = (midway_start, refl)
 
 pub endpoint_at-c-requires : goal.endpoint_at-c-requires
 endpoint_at-c-requires c = (omega (arith, c.loop-i-test.true), c.requires.p_bound)
@@ -32,7 +32,7 @@ loop-i-preserved c =
     let a = c.args in
     let f = rw c.endpoint_at-c.ensures at c.pass_point-w.ensures in
     let turn = visit_turn a.s.sure a.pass a.r a.p.now a.s.first.0 l.i (omega (arith, c.loop-i-test.true)) l.w l.invariant.0 f in
-    (turn.0, l.invariant.1 ∙ turn.1, search (rules, l.invariant.2), search (rules, l.invariant.3), search (rules, l.invariant.4))
+    (turn.0, l.invariant.1 ∙ turn.1)
 
 pub returns : goal.returns
 unfolding walked

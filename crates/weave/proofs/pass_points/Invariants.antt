@@ -13,4 +13,3 @@ invariant-loop-i l =
     let ps = endpoints_of l.s.first.0 l.p in
     Midway l.pass.write l.pass.stroke l.r l.initial.w.weave (passed l.s.sure l.pass.stroke l.initial.w.leg (drop l.s.from ps)) (lent l.initial.v l.initial.src l.initial.t) (passed l.s.sure l.pass.stroke l.w.leg (drop l.i ps)) l.w.weave (lent l.v l.src l.t)
     × (walked l.s.sure l.pass.stroke l.initial.w.leg (drop l.s.from ps) ≡ walked l.s.sure l.pass.stroke l.w.leg (drop l.i ps))
-    × (length l.v ≡ length l.initial.v) × (length l.src ≡ length l.initial.src) × (length l.t ≡ length l.initial.t)
