@@ -1,5 +1,4 @@
 -- `weave::pass_points` meets its contract. The plan: of the joints that the points bring, the rest is to come (`Midway`), and the way to the end is the same; one turn is `Turns`, and behind the last point nothing is to come. Assumes nothing.
-use borrow.Author.Rules.{rules}
 use Prim.Native.Nat.{◌≤◌}
 use mathlib.Core.Path.{◌≡◌, refl, sym, ◌∙◌}
 use mathlib.Core.List.{[]}
@@ -15,9 +14,6 @@ use Rattle.weave.proofs.pass_points.Goals as goal
 
 pub loop-i-init : goal.loop-i-init
 loop-i-init c = (midway_start, refl)
-
-pub endpoint_at-c-requires : goal.endpoint_at-c-requires
-endpoint_at-c-requires c = (omega (arith, c.loop-i-test.true), c.requires.p_bound)
 
 pub pass_point-w-requires : goal.pass_point-w-requires
 pass_point-w-requires c =

@@ -1,6 +1,6 @@
 -- The loop of `weave::pass_points`: what each turn keeps. Assumes nothing.
 use mathlib.Core.Path.{◌≡◌}
-use lib.ListN.{length, drop}
+use lib.ListN.{drop}
 use Rattle.pieces.specs.Piece.{lent}
 use Rattle.kept.specs.Points.{endpoints_of}
 use Rattle.bends.proofs.Pending.{Midway}
