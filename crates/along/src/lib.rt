@@ -39,14 +39,14 @@ pub struct At {
 }
 
 // How far a run has come: the leg reached, and what is written or counted.
-#[derive(Drop)]
+#[derive(Clone, Copy)]
 pub struct Walk {
     pub leg: Leg,
     pub strip: Strip,
 }
 
 // Points to pass: those of a list from one on, where the list's endpoints are numbered from first. On closing, points are sure to be kept.
-#[derive(Drop)]
+#[derive(Clone, Copy)]
 pub struct Stretch {
     pub first: EndpointId,
     pub from: usize,
@@ -88,14 +88,11 @@ fn pass_kept(
     requires { StripFits pass.write w.strip (advanced pass.stroke w.leg p) (lent v.old src.old t.old) }
     ensures { Walks pass.write (advanced pass.stroke w.leg p) (next_leg_of pass.stroke.half_width w.leg p) w (lent v.old src.old t.old) (lent v.new src.new t.new) result }
 {
-    let o = pass.stroke;
-    let leg = w.leg;
-    let strip = w.strip;
-    let next = next_leg(o.half_width, leg, p);
-    let c = pass_joint(v, src, t, pass, leg, strip, next);
+    let next = next_leg(pass.stroke.half_width, w.leg, p);
+    let c = pass_joint(v, src, t, pass, w.leg, w.strip, next);
     Walk {
         leg: next,
-        strip: step(strip, c.positive, c.negative),
+        strip: step(w.strip, c.positive, c.negative),
     }
 }
 
@@ -103,11 +100,7 @@ fn pass_kept(
 pub fn is_dropped(limit: f32, sure: bool, leg: Leg, p: Endpoint) -> bool
     ensures { result ≡ drops limit sure leg p }
 {
-    if sure {
-        return false;
-    }
-    let to = leg.to;
-    is_near(limit, to.position, p.position)
+    !sure && is_near(limit, leg.to.position, p.position)
 }
 
 // The next point, which may be dropped.
@@ -123,8 +116,7 @@ fn pass_point(
     requires { StripFits pass.write w.strip (visited sure pass.stroke w.leg p) (lent v.old src.old t.old) }
     ensures { Walks pass.write (visited sure pass.stroke w.leg p) (visit_of sure pass.stroke w.leg p) w (lent v.old src.old t.old) (lent v.new src.new t.new) result }
 {
-    let o = pass.stroke;
-    if is_dropped(o.near, sure, w.leg, p) {
+    if is_dropped(pass.stroke.near, sure, w.leg, p) {
         return w;
     }
     pass_kept(v, src, t, pass, w, p)
@@ -145,12 +137,9 @@ pub fn pass_points(
     ensures { Walks pass.write (passed s.sure pass.stroke w.leg (drop s.from (endpoints_of s.first.0 p.now))) (walked s.sure pass.stroke w.leg (drop s.from (endpoints_of s.first.0 p.now))) w (lent v.old src.old t.old) (lent v.new src.new t.new) result }
 {
     let mut w = w;
-    let mut i = s.from;
-    let end = p.len() / 2;
-    while i < end {
+    for i in s.from..p.len() / 2 {
         let c = endpoint_at(p, s.first, i);
         w = pass_point(v, src, t, pass, w, c, s.sure);
-        i += 1;
     }
     w
 }

@@ -60,7 +60,7 @@ pub fn begin(
     let j = start_cap(pass.stroke, leg);
     let s = start(base);
     Walk {
-        leg: leg,
+        leg,
         strip: pass_cap(v, src, t, pass.write, s, j),
     }
 }
@@ -88,12 +88,10 @@ pub fn pass_open(
     requires strip_fits { StripFits pass.write (start_of at.vertex) (joints_of false pass.stroke (run_from pass.stroke.near p.now at.endpoint.0 i)) (lent v.old src.old t.old) }
     ensures { StripPasses pass.write (joints_of false pass.stroke (run_from pass.stroke.near p.now at.endpoint.0 i)) (start_of at.vertex) (lent v.old src.old t.old) (lent v.new src.new t.new) result }
 {
-    let o = pass.stroke;
-    let first = at.endpoint;
-    let leg = first_leg(o.half_width, p, first, i);
+    let leg = first_leg(pass.stroke.half_width, p, at.endpoint, i);
     let begun = begin(v, src, t, pass, leg, at.vertex);
     let rest = Stretch {
-        first,
+        first: at.endpoint,
         from: i + 1,
         sure: false,
     };
@@ -115,20 +113,17 @@ fn go_round(
     requires strip_fits { StripFits pass.write w.strip (round_of pass.stroke w.leg (endpoint_at p.now on.first.0 0) (endpoint_at p.now on.first.0 on.from)) (lent v.old src.old t.old) }
     ensures { StripPasses pass.write (round_of pass.stroke w.leg (endpoint_at p.now on.first.0 0) (endpoint_at p.now on.first.0 on.from)) w.strip (lent v.old src.old t.old) (lent v.new src.new t.new) result }
 {
-    let first = on.first;
-    let i = on.from;
     let p0 = Stretch {
-        first,
         from: 0,
         sure: true,
+        ..on
     };
     let home = pass_points(v, src, t, pass, w, &p[..2], p0);
     let p1 = Stretch {
-        first: endpoint_after(first, i),
-        from: 0,
-        sure: true,
+        first: endpoint_after(on.first, on.from),
+        ..p0
     };
-    let from = 2 * i;
+    let from = 2 * on.from;
     let end = pass_points(v, src, t, pass, home, &p[from..from + 2], p1);
     end.strip
 }
@@ -147,23 +142,21 @@ pub fn pass_closed(
     requires strip_fits { StripFits pass.write (start_of at.vertex) (joints_of true pass.stroke (run_from pass.stroke.near p.now at.endpoint.0 i)) (lent v.old src.old t.old) }
     ensures { StripPasses pass.write (joints_of true pass.stroke (run_from pass.stroke.near p.now at.endpoint.0 i)) (start_of at.vertex) (lent v.old src.old t.old) (lent v.new src.new t.new) result }
 {
-    let o = pass.stroke;
-    let first = at.endpoint;
-    let leg = first_leg(o.half_width, p, first, i);
+    let leg = first_leg(pass.stroke.half_width, p, at.endpoint, i);
     let begun = Walk {
-        leg: leg,
+        leg,
         strip: start(at.vertex),
     };
     let rest = Stretch {
-        first,
+        first: at.endpoint,
         from: i + 1,
         sure: false,
     };
     let w = pass_points(v, src, t, pass, begun, p, rest);
     let second = Stretch {
-        first,
         from: i,
         sure: true,
+        ..rest
     };
     go_round(v, src, t, pass, w, p, second)
 }

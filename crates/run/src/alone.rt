@@ -16,23 +16,14 @@ use vertices::cap::tessellate_empty_square_cap;
 fn draws_cap(o: Stroke, ends: Ends) -> bool
     ensures { result ≡ draws_cap o.cap ends.closed ends.lines }
 {
-    let cap = o.cap;
-    match cap {
-        LineCap::Butt => false,
-        LineCap::Square => ends.closed | ends.lines,
-        LineCap::Round => ends.closed | ends.lines,
-    }
+    !matches!(o.cap, LineCap::Butt) && (ends.closed || ends.lines)
 }
 
 // How many vertices the empty cap has; its triangles are two fewer.
 fn cap_size(o: Stroke) -> usize
     ensures { result ≡ cap_size o }
 {
-    let cap = o.cap;
-    if rounds_caps(cap) {
-        return 4 << level_of(o);
-    }
-    4
+    if rounds_caps(o.cap) { 4 << level_of(o) } else { 4 }
 }
 
 // The empty cap at a point.
@@ -48,12 +39,11 @@ fn put_empty_cap(
     requires fits { Fits true (from base) (shape_piece o false base (cap_shape o p)) (lent v.old src.old t.old) }
     ensures { Lays true (from base) (shape_piece o false base (cap_shape o p)) (lent v.old src.old t.old) (lent v.new src.new t.new) }
 {
-    let cap = o.cap;
-    if rounds_caps(cap) {
+    if rounds_caps(o.cap) {
         tessellate_empty_round_cap(v, src, t, base, p, o.half_width, level_of(o));
-        return;
+    } else {
+        tessellate_empty_square_cap(v, src, t, base, p, o.half_width, 0.0);
     }
-    tessellate_empty_square_cap(v, src, t, base, p, o.half_width, 0.0);
 }
 
 // The same, where the pass writes.

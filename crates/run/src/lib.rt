@@ -25,7 +25,7 @@ use strip::Strip;
 use woven::{close_round, weave_behind};
 
 // What rule 2 asks of a run: whether its end is closed, and whether it has a line.
-#[derive(Drop)]
+#[derive(Clone, Copy)]
 pub struct Ends {
     pub closed: bool,
     pub lines: bool,
@@ -35,11 +35,9 @@ pub struct Ends {
 pub fn round_of(o: Stroke) -> Round
     ensures { result ≡ round_of o }
 {
-    let j = o.line_join;
-    let c = o.cap;
     Round {
-        joins: rounds_joins(j),
-        caps: rounds_caps(c),
+        joins: rounds_joins(o.line_join),
+        caps: rounds_caps(o.cap),
         detail: level_of(o),
     }
 }
@@ -88,11 +86,9 @@ fn draw_strip(
     }
     if closed {
         close_round(t, end, s, pass.write);
-        let base = end.base;
         return Place {
-            base,
-            vertices: end.vertices,
             triangles: end.vertices,
+            ..end
         };
     }
     end
@@ -112,8 +108,7 @@ fn draw_kept(
     requires draw_fits { DrawFits pass ends.closed at.vertex (shape_of_kept pass.stroke ends.closed ends.lines (kept_points pass.stroke.near false (endpoints_of at.endpoint.0 p.now))) (lent v.old src.old t.old) }
     ensures { Draws pass ends.closed at.vertex (shape_of_kept pass.stroke ends.closed ends.lines (kept_points pass.stroke.near false (endpoints_of at.endpoint.0 p.now))) (lent v.old src.old t.old) (lent v.new src.new t.new) result }
 {
-    let o = pass.stroke;
-    let i = first_far(o.near, p, at.endpoint);
+    let i = first_far(pass.stroke.near, p, at.endpoint);
     if p.len() / 2 <= i {
         let alone = endpoint_at(p, at.endpoint, 0);
         return draw_alone(v, src, t, pass, alone, at.vertex, ends);
@@ -135,11 +130,9 @@ pub fn draw_run(
     requires draw_fits { DrawFits pass closed at.vertex (shape_of pass.stroke closed (endpoints_of at.endpoint.0 p.now)) (lent v.old src.old t.old) }
     ensures { Draws pass closed at.vertex (shape_of pass.stroke closed (endpoints_of at.endpoint.0 p.now)) (lent v.old src.old t.old) (lent v.new src.new t.new) result }
 {
-    let o = pass.stroke;
     if p.len() < 2 {
-        let base = at.vertex;
         return Place {
-            base,
+            base: at.vertex,
             vertices: 0,
             triangles: 0,
         };
@@ -149,7 +142,7 @@ pub fn draw_run(
         lines: 1 < p.len() / 2,
     };
     if closed {
-        let to = 2 * kept_end(o.near, p, at.endpoint);
+        let to = 2 * kept_end(pass.stroke.near, p, at.endpoint);
         return draw_kept(v, src, t, pass, &p[..to], at, ends);
     }
     draw_kept(v, src, t, pass, p, at, ends)

@@ -34,16 +34,15 @@ pub fn moved(g: Cursor, verb: u8, place: Place) -> Cursor
     requires { g.first.0 + g.size < id_limit }
     ensures { result ≡ moved_of g verb place }
 {
-    let first = g.first;
     if names_point(verb) {
         return Cursor {
-            first,
             size: g.size + 1,
             place,
+            ..g
         };
     }
     Cursor {
-        first: endpoint_after(first, g.size),
+        first: endpoint_after(g.first, g.size),
         size: 0,
         place,
     }

@@ -13,10 +13,9 @@ use kept::{first_far, kept_end};
 use pieces::{Index, Place};
 use run::{draw_run, round_of};
 
-// Whether a run is cut, and if so where the coordinates of its kept points end, and which point is the second.
-#[derive(Drop)]
+// Of a run that is cut: where the coordinates of its kept points end, and which point is the second.
+#[derive(Clone, Copy)]
 pub struct Second {
-    pub cut: bool,
     pub to: usize,
     pub i: usize,
 }
@@ -32,28 +31,20 @@ fn kept_to(near: f32, p: &[f32], first: EndpointId, closed: bool) -> usize
     p.len()
 }
 
-// ds holds the lengths of the dashes.
-fn second_of(near: f32, p: &[f32], first: EndpointId, closed: bool, ds: &[f32]) -> Second
+// None where the run is not cut; ds holds the lengths of the dashes.
+fn second_of(near: f32, p: &[f32], first: EndpointId, closed: bool, ds: &[f32]) -> Option<Second>
     requires { first.0 + length p.now < id_limit }
     ensures { Seconds near p.now first.0 closed ds.now result }
 {
-    let uncut = Second {
-        cut: false,
-        to: 0,
-        i: 0,
-    };
-    if ds.len() == 0 {
-        return uncut;
-    }
-    if p.len() < 2 {
-        return uncut;
+    if ds.is_empty() || p.len() < 2 {
+        return None;
     }
     let to = kept_to(near, p, first, closed);
     let i = first_far(near, &p[..to], first);
-    Second {
-        cut: i < to / 2,
-        to,
-        i,
+    if i < to / 2 {
+        Some(Second { to, i })
+    } else {
+        None
     }
 }
 
@@ -74,23 +65,23 @@ pub fn draw_cut(
     ensures { Passes pass.write (from at.vertex) (mesh_piece pass.stroke (from at.vertex) (cut_of pass.stroke ds.now (record { closed = closed; points = endpoints_of at.endpoint.0 p.now } ∷ []))) (lent v.old src.old t.old) (lent v.new src.new t.new) result }
 {
     let o = pass.stroke;
-    let second = second_of(o.near, p, at.endpoint, closed, ds);
-    if second.cut {
-        let to = second.to;
-        let r = round_of(o);
-        return draw_dashes(
-            v,
-            src,
-            t,
-            pass,
-            r,
-            &p[..to],
-            at,
-            second.i,
-            closed,
-            ds,
-            o.offset,
-        );
+    match second_of(o.near, p, at.endpoint, closed, ds) {
+        Some(Second { to, i }) => {
+            let r = round_of(o);
+            draw_dashes(
+                v,
+                src,
+                t,
+                pass,
+                r,
+                &p[..to],
+                at,
+                i,
+                closed,
+                ds,
+                o.offset,
+            )
+        }
+        None => draw_run(v, src, t, pass, p, at, closed),
     }
-    draw_run(v, src, t, pass, p, at, closed)
 }

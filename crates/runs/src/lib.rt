@@ -40,18 +40,16 @@ fn draw_ended(
     requires verb_value { names verb ≡ false }
     ensures { Passes write g.place (mesh_piece stroke g.place (cut_of stroke ds.now (ended_of g verb (endpoints_of 0 coords.now)))) (lent v.old src.old t.old) (lent v.new src.new t.new) result }
 {
-    let place = g.place;
-    let first = g.first;
-    let i = first.0 as usize;
+    let i = g.first.0 as usize;
     let from = 2 * i;
     let to = 2 * (i + g.size);
     let pass = Pass { stroke, write };
-    let a = place_of(write, 5 * place.vertices);
-    let b = place_of(write, place.vertices);
-    let c = place_of(write, 3 * place.triangles);
+    let a = place_of(write, 5 * g.place.vertices);
+    let b = place_of(write, g.place.vertices);
+    let c = place_of(write, 3 * g.place.triangles);
     let at = At {
-        endpoint: first,
-        vertex: next_vertex(place),
+        endpoint: g.first,
+        vertex: next_vertex(g.place),
     };
     let run = draw_cut(
         &mut v[a..],
@@ -63,13 +61,10 @@ fn draw_ended(
         verb == END_CLOSED,
         ds,
     );
-    let base = place.base;
-    let vertices = place.vertices + run.vertices;
-    let triangles = place.triangles + run.triangles;
     Place {
-        base,
-        vertices,
-        triangles,
+        vertices: g.place.vertices + run.vertices,
+        triangles: g.place.triangles + run.triangles,
+        ..g.place
     }
 }
 
@@ -112,12 +107,9 @@ pub fn draw_runs(
     ensures { Passes pass.write undrawn (mesh_piece pass.stroke undrawn (path_runs pass.stroke ds.now verbs.now coords.now)) (lent v.old src.old t.old) (lent v.new src.new t.new) result }
 {
     let mut g = start();
-    let mut i: usize = 0;
-    while i < verbs.len() {
-        let verb = verbs[i];
-        let place = draw_verb(v, src, t, pass, coords, ds, g, verb);
-        g = moved(g, verb, place);
-        i += 1;
+    for verb in verbs {
+        let place = draw_verb(v, src, t, pass, coords, ds, g, *verb);
+        g = moved(g, *verb, place);
     }
     g.place
 }

@@ -15,7 +15,7 @@ use path::verbs::names_point;
 use pieces::{Index, Place};
 
 // How many runs have ended, and the vertices before the run that is asked for and up to its end, as far as they are drawn.
-#[derive(Drop)]
+#[derive(Clone, Copy)]
 pub struct Seen {
     pub ended: usize,
     pub before: usize,
@@ -23,7 +23,7 @@ pub struct Seen {
 }
 
 // What all runs need, and what was seen of the one.
-#[derive(Drop)]
+#[derive(Clone, Copy)]
 pub struct Told {
     pub place: Place,
     pub seen: Seen,
@@ -48,15 +48,11 @@ fn noted(s: Seen, run: usize, verb: u8, drawn: usize) -> Seen
     if s.ended <= run {
         return Seen {
             ended,
-            before: s.before,
             through: drawn,
+            ..s
         };
     }
-    Seen {
-        ended,
-        before: s.before,
-        through: s.through,
-    }
+    Seen { ended, ..s }
 }
 
 // What a verb draws, counted.
@@ -103,16 +99,15 @@ fn count_seen(
         before: 0,
         through: 0,
     };
-    let mut i: usize = 0;
-    while i < verbs.len() {
-        let verb = verbs[i];
-        let place = count_verb(v, src, t, stroke, coords, ds, g, verb);
-        s = noted(s, run, verb, place.vertices);
-        g = moved(g, verb, place);
-        i += 1;
+    for verb in verbs {
+        let place = count_verb(v, src, t, stroke, coords, ds, g, *verb);
+        s = noted(s, run, *verb, place.vertices);
+        g = moved(g, *verb, place);
     }
-    let place = g.place;
-    Told { place, seen: s }
+    Told {
+        place: g.place,
+        seen: s,
+    }
 }
 
 // What all runs need, and where the vertices of the run of that number stand among theirs.

@@ -42,18 +42,15 @@ fn pass_kept(
     requires { WeaveFits pass.write pass.stroke r w.weave (advanced pass.stroke w.leg p) (lent v.old src.old t.old) }
     ensures { Walks pass r (advanced pass.stroke w.leg p) (next_leg_of pass.stroke.half_width w.leg p) w (lent v.old src.old t.old) (lent v.new src.new t.new) result }
 {
-    let o = pass.stroke;
-    let leg = w.leg;
-    let weave = w.weave;
-    let next = next_leg(o.half_width, leg, p);
+    let next = next_leg(pass.stroke.half_width, w.leg, p);
     let b = Bend {
-        joint: joint_again(o, leg, next),
-        leg: leg,
+        joint: joint_again(pass.stroke, w.leg, next),
+        leg: w.leg,
         end: false,
     };
     Walk {
         leg: next,
-        weave: pass_bend(v, src, t, pass.write, o, r, weave, b),
+        weave: pass_bend(v, src, t, pass.write, pass.stroke, r, w.weave, b),
     }
 }
 
@@ -71,8 +68,7 @@ fn pass_point(
     requires { WeaveFits pass.write pass.stroke r w.weave (visited sure pass.stroke w.leg p) (lent v.old src.old t.old) }
     ensures { Walks pass r (visited sure pass.stroke w.leg p) (visit_of sure pass.stroke w.leg p) w (lent v.old src.old t.old) (lent v.new src.new t.new) result }
 {
-    let o = pass.stroke;
-    if is_dropped(o.near, sure, w.leg, p) {
+    if is_dropped(pass.stroke.near, sure, w.leg, p) {
         return w;
     }
     pass_kept(v, src, t, pass, r, w, p)
@@ -94,12 +90,9 @@ pub fn pass_points(
     ensures { Walks pass r (passed s.sure pass.stroke w.leg (drop s.from (endpoints_of s.first.0 p.now))) (walked s.sure pass.stroke w.leg (drop s.from (endpoints_of s.first.0 p.now))) w (lent v.old src.old t.old) (lent v.new src.new t.new) result }
 {
     let mut w = w;
-    let mut i = s.from;
-    let end = p.len() / 2;
-    while i < end {
+    for i in s.from..p.len() / 2 {
         let c = endpoint_at(p, s.first, i);
         w = pass_point(v, src, t, pass, r, w, c, s.sure);
-        i += 1;
     }
     w
 }

@@ -44,9 +44,8 @@ pub fn begin(o: Stroke, r: Round, leg: Leg, base: VertexId, arcs: VertexId) -> W
     let j = start_cap(o, leg);
     let p = positive_count(j);
     let n = negative_count(j);
-    let s = start(base);
     Weave {
-        strip: step(s, p, n),
+        strip: step(start(base), p, n),
         place: unwoven(arcs),
         due: r.caps,
     }
@@ -64,15 +63,12 @@ pub fn finish(
     requires { WeaveFits pass.write pass.stroke r w.weave (end_bend pass.stroke w.leg ∷ []) (lent v.old src.old t.old) }
     ensures { WeavePasses pass.write pass.stroke r (end_bend pass.stroke w.leg ∷ []) w.weave (lent v.old src.old t.old) (lent v.new src.new t.new) result }
 {
-    let o = pass.stroke;
-    let leg = w.leg;
-    let weave = w.weave;
     let b = Bend {
-        joint: end_cap(o, leg),
-        leg: leg,
+        joint: end_cap(pass.stroke, w.leg),
+        leg: w.leg,
         end: true,
     };
-    pass_bend(v, src, t, pass.write, o, r, weave, b)
+    pass_bend(v, src, t, pass.write, pass.stroke, r, w.weave, b)
 }
 
 // An open run.
@@ -92,16 +88,13 @@ pub fn weave_open(
     requires weave_fits { WeaveFits pass.write pass.stroke r (opened_of pass.stroke r (first_leg_of pass.stroke.half_width (endpoint_at p.now at.endpoint.0 0) (endpoint_at p.now at.endpoint.0 i)) at.vertex arcs) (bends_of false pass.stroke (run_from pass.stroke.near p.now at.endpoint.0 i)) (lent v.old src.old t.old) }
     ensures { WeavePasses pass.write pass.stroke r (bends_of false pass.stroke (run_from pass.stroke.near p.now at.endpoint.0 i)) (opened_of pass.stroke r (first_leg_of pass.stroke.half_width (endpoint_at p.now at.endpoint.0 0) (endpoint_at p.now at.endpoint.0 i)) at.vertex arcs) (lent v.old src.old t.old) (lent v.new src.new t.new) result }
 {
-    let o = pass.stroke;
-    let first = at.endpoint;
-    let leg = first_leg(o.half_width, p, first, i);
-    let begun = begin(o, r, leg, at.vertex, arcs);
+    let leg = first_leg(pass.stroke.half_width, p, at.endpoint, i);
     let start = Walk {
-        leg: leg,
-        weave: begun,
+        leg,
+        weave: begin(pass.stroke, r, leg, at.vertex, arcs),
     };
     let rest = Stretch {
-        first,
+        first: at.endpoint,
         from: i + 1,
         sure: false,
     };
@@ -124,20 +117,17 @@ fn go_round(
     requires weave_fits { WeaveFits pass.write pass.stroke r w.weave (round_of pass.stroke w.leg (endpoint_at p.now on.first.0 0) (endpoint_at p.now on.first.0 on.from)) (lent v.old src.old t.old) }
     ensures { WeavePasses pass.write pass.stroke r (round_of pass.stroke w.leg (endpoint_at p.now on.first.0 0) (endpoint_at p.now on.first.0 on.from)) w.weave (lent v.old src.old t.old) (lent v.new src.new t.new) result }
 {
-    let first = on.first;
-    let i = on.from;
     let p0 = Stretch {
-        first,
         from: 0,
         sure: true,
+        ..on
     };
     let home = pass_points(v, src, t, pass, r, w, &p[..2], p0);
     let p1 = Stretch {
-        first: endpoint_after(first, i),
-        from: 0,
-        sure: true,
+        first: endpoint_after(on.first, on.from),
+        ..p0
     };
-    let from = 2 * i;
+    let from = 2 * on.from;
     let end = pass_points(v, src, t, pass, r, home, &p[from..from + 2], p1);
     end.weave
 }
@@ -158,28 +148,23 @@ pub fn weave_closed(
     requires weave_fits { WeaveFits pass.write pass.stroke r (closed_of at.vertex arcs) (bends_of true pass.stroke (run_from pass.stroke.near p.now at.endpoint.0 i)) (lent v.old src.old t.old) }
     ensures { WeavePasses pass.write pass.stroke r (bends_of true pass.stroke (run_from pass.stroke.near p.now at.endpoint.0 i)) (closed_of at.vertex arcs) (lent v.old src.old t.old) (lent v.new src.new t.new) result }
 {
-    let o = pass.stroke;
-    let first = at.endpoint;
-    let leg = first_leg(o.half_width, p, first, i);
+    let leg = first_leg(pass.stroke.half_width, p, at.endpoint, i);
     let begun = Weave {
         strip: start(at.vertex),
         place: unwoven(arcs),
         due: false,
     };
-    let walk = Walk {
-        leg: leg,
-        weave: begun,
-    };
+    let walk = Walk { leg, weave: begun };
     let rest = Stretch {
-        first,
+        first: at.endpoint,
         from: i + 1,
         sure: false,
     };
     let w = pass_points(v, src, t, pass, r, walk, p, rest);
     let second = Stretch {
-        first,
         from: i,
         sure: true,
+        ..rest
     };
     go_round(v, src, t, pass, r, w, p, second)
 }

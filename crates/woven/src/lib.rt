@@ -22,10 +22,7 @@ use weave::strips::{weave_closed, weave_open};
 pub fn place_of(write: bool, place: usize) -> usize
     ensures { result ≡ cond write place 0 }
 {
-    if write {
-        return place;
-    }
-    0
+    if write { place } else { 0 }
 }
 
 // A closed run goes round to its first section, behind the triangles that stand at a place.
@@ -56,15 +53,10 @@ fn weave_round(
     ensures { WeftPasses pass.write (from arcs) (woven_of true pass.stroke r at.vertex (run_from pass.stroke.near p.now at.endpoint.0 i)) (lent v.old src.old t.old) (lent v.new src.new t.new) result }
 {
     let w = weave_closed(v, src, t, pass, r, p, at, i, arcs);
-    let k = w.place;
-    let s = w.strip;
-    close_round(t, k, s, pass.write);
-    let strip = s.place;
-    let base = k.base;
+    close_round(t, w.place, w.strip, pass.write);
     Place {
-        base,
-        vertices: k.vertices,
-        triangles: strip.vertices + k.vertices,
+        triangles: w.strip.place.vertices + w.place.vertices,
+        ..w.place
     }
 }
 
@@ -124,10 +116,9 @@ pub fn weave_behind(
         arcs,
         closed,
     );
-    let base = at.vertex;
     Place {
-        base,
+        base: at.vertex,
         vertices: n + k.vertices,
-        triangles: k.triangles,
+        ..k
     }
 }

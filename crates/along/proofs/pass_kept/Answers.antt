@@ -15,9 +15,6 @@ counted : (c : After-pass_joint-c) → let a = c.args in let j = joint_of a.pass
 unfolding counts_of
 counted c = let e = rw c.next_leg-next.ensures at c.pass_joint-c.ensures.value in (ap (λ (k : Counts). k.positive) e, ap (λ (k : Counts). k.negative) e)
 
-pub pass_joint-c-requires : goal.pass_joint-c-requires
-pass_joint-c-requires c = rw c.next_leg-next.ensures c.requires
-
 pub step-requires : goal.step-requires
 step-requires c = steps_one c.requires _ _ (counted (goal.at.step-requires c).After-pass_joint-c).0 (counted (goal.at.step-requires c).After-pass_joint-c).1
 

@@ -1,7 +1,6 @@
--- The loop of `along::pass_points`: what each turn keeps, and what falls. Assumes nothing.
-use Prim.Native.Nat.{◌-◌}
+-- The loop of `along::pass_points`: what each turn keeps. Assumes nothing.
 use mathlib.Core.Path.{◌≡◌}
-use lib.ListN.{length, drop}
+use lib.ListN.{drop}
 use Rattle.pieces.specs.Piece.{lent}
 use Rattle.kept.specs.Points.{endpoints_of}
 use Rattle.strip.proofs.Pending.{Midway}
@@ -11,9 +10,5 @@ use Rattle.along.proofs.pass_points.Given as goal
 abbrev pub invariant-loop-i : goal.invariant-loop-i
 invariant-loop-i l =
     let ps = endpoints_of l.s.first.0 l.p in
-    Midway l.pass.write l.initial.w.strip (passed l.s.sure l.pass.stroke l.initial.w.leg (drop l.initial.i ps)) (lent l.initial.v l.initial.src l.initial.t) (passed l.s.sure l.pass.stroke l.w.leg (drop l.i ps)) l.w.strip (lent l.v l.src l.t)
-    × (walked l.s.sure l.pass.stroke l.initial.w.leg (drop l.initial.i ps) ≡ walked l.s.sure l.pass.stroke l.w.leg (drop l.i ps))
-    × (length l.v ≡ length l.initial.v) × (length l.src ≡ length l.initial.src) × (length l.t ≡ length l.initial.t)
-
-abbrev pub decreases-loop-i : goal.decreases-loop-i
-decreases-loop-i l = l.end - l.i
+    Midway l.pass.write l.initial.w.strip (passed l.s.sure l.pass.stroke l.initial.w.leg (drop l.s.from ps)) (lent l.initial.v l.initial.src l.initial.t) (passed l.s.sure l.pass.stroke l.w.leg (drop l.i ps)) l.w.strip (lent l.v l.src l.t)
+    × (walked l.s.sure l.pass.stroke l.initial.w.leg (drop l.s.from ps) ≡ walked l.s.sure l.pass.stroke l.w.leg (drop l.i ps))

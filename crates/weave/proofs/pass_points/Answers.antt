@@ -1,5 +1,4 @@
 -- `weave::pass_points` meets its contract. The plan: of the joints that the points bring, the rest is to come (`Midway`), and the way to the end is the same; one turn is `Turns`, and behind the last point nothing is to come. Assumes nothing.
-use borrow.Author.Rules.{rules}
 use Prim.Native.Nat.{◌≤◌}
 use mathlib.Core.Path.{◌≡◌, refl, sym, ◌∙◌}
 use mathlib.Core.List.{[]}
@@ -14,10 +13,7 @@ use Rattle.weave.proofs.Turns.{visit_has, visit_turn}
 use Rattle.weave.proofs.pass_points.Goals as goal
 
 pub loop-i-init : goal.loop-i-init
-loop-i-init c = (midway_start, refl, refl, refl, refl)
-
-pub endpoint_at-c-requires : goal.endpoint_at-c-requires
-endpoint_at-c-requires c = (omega (arith, c.loop-i-test.true), c.requires.p_bound)
+loop-i-init c = (midway_start, refl)
 
 pub pass_point-w-requires : goal.pass_point-w-requires
 pass_point-w-requires c =
@@ -26,19 +22,13 @@ pass_point-w-requires c =
     rw c.endpoint_at-c.ensures
     (visit_has a.s.sure a.pass a.r a.p.now a.s.first.0 l.i (omega (arith, c.loop-i-test.true)) l.w l.invariant.0 c.requires.weave_fits)
 
-pub overflow_add-i : goal.overflow_add-i
-overflow_add-i c = omega (arith, c.loop-i-test.true, c.requires.p_bound)
-
-pub loop-i-smaller : goal.loop-i-smaller
-loop-i-smaller c = omega (arith, c.loop-i-test.true)
-
 pub loop-i-preserved : goal.loop-i-preserved
 loop-i-preserved c =
     let l = c.loop-i in
     let a = c.args in
     let f = rw c.endpoint_at-c.ensures at c.pass_point-w.ensures in
     let turn = visit_turn a.s.sure a.pass a.r a.p.now a.s.first.0 l.i (omega (arith, c.loop-i-test.true)) l.w l.invariant.0 f in
-    (turn.0, l.invariant.1 ∙ turn.1, search (rules, l.invariant.2), search (rules, l.invariant.3), search (rules, l.invariant.4))
+    (turn.0, l.invariant.1 ∙ turn.1)
 
 pub returns : goal.returns
 unfolding walked

@@ -3,10 +3,10 @@ use native.Mathlib.Omega.{arith}
 use Rattle.woven.proofs.Runs.{ids, closed_fits, way_room, few_round, closed_passes}
 use Rattle.woven.proofs.weave_round.Goals as goal
 
-pub weave_closed-w-requires : goal.weave_closed-w-requires
-weave_closed-w-requires c =
+pub weave_closed-w-requires-clause-weave_fits : goal.weave_closed-w-requires-clause-weave_fits
+weave_closed-w-requires-clause-weave_fits c =
     let a = c.args in
-    record { within = c.requires.within; weave_fits = closed_fits a.pass.stroke a.r a.at.vertex _ _ _ c.requires.woven_fits (ids a.pass.stroke.near c.requires.within) }
+    closed_fits a.pass.stroke a.r a.at.vertex _ _ _ c.requires.woven_fits (ids a.pass.stroke.near c.requires.within)
 
 pub close_round-requires : goal.close_round-requires
 close_round-requires c =

@@ -4,20 +4,15 @@ use Rattle.pieces.specs.Piece.{lent}
 use Rattle.woven.proofs.Runs.{ids, cap_fits, open_fits, open_passes}
 use Rattle.woven.proofs.weave_run.Goals as goal
 
-pub weave_round-requires : goal.weave_round-requires
-weave_round-requires c =
-    record { within = c.requires.within; woven_fits = rw c.if-closed.true at c.requires.woven_fits }
-
-pub returns-then-closed : goal.returns-then-closed
-returns-then-closed c =
-    rw c.if-closed.true c.weave_round.ensures
-
-pub weave_open-w-requires : goal.weave_open-w-requires
-weave_open-w-requires c =
+pub weave_open-w-requires-clause-strip_fits : goal.weave_open-w-requires-clause-strip_fits
+weave_open-w-requires-clause-strip_fits c =
     let a = c.args in
-    let h = rw c.if-closed.false at c.requires.woven_fits in
-    let n = ids a.pass.stroke.near c.requires.within in
-    record { within = c.requires.within; strip_fits = cap_fits a.pass.stroke a.r a.at.vertex _ _ _ h (lent [] [] []); weave_fits = open_fits a.pass.stroke a.r a.at.vertex _ _ _ h n }
+    cap_fits a.pass.stroke a.r a.at.vertex _ _ _ (rw c.if-closed.false at c.requires.woven_fits) (lent [] [] [])
+
+pub weave_open-w-requires-clause-weave_fits : goal.weave_open-w-requires-clause-weave_fits
+weave_open-w-requires-clause-weave_fits c =
+    let a = c.args in
+    open_fits a.pass.stroke a.r a.at.vertex _ _ _ (rw c.if-closed.false at c.requires.woven_fits) (ids a.pass.stroke.near c.requires.within)
 
 pub returns : goal.returns
 returns c =

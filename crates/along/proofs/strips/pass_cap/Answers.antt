@@ -2,9 +2,6 @@
 use Rattle.strip.proofs.Counting.{steps_one, puts_one}
 use Rattle.along.proofs.strips.pass_cap.Goals as goal
 
-pub lay_joint_if-requires : goal.lay_joint_if-requires
-lay_joint_if-requires c = c.requires
-
 pub step-requires : goal.step-requires
 step-requires c = steps_one c.requires _ _ c.positive_count.ensures c.negative_count.ensures
 

@@ -6,9 +6,9 @@ pub begin-begun-requires : goal.begin-begun-requires
 begin-begun-requires c =
     begin_has c.args.pass.stroke _ _ _ c.first_leg-leg.ensures c.requires.strip_fits
 
-pub pass_points-w-requires : goal.pass_points-w-requires
-pass_points-w-requires c =
-    record { p_bound = c.requires.within.few; strip_fits = pass_has c.args.pass.stroke _ _ _ c.first_leg-leg.ensures c.requires.strip_fits c.begin-begun.ensures }
+pub pass_points-w-requires-clause-strip_fits : goal.pass_points-w-requires-clause-strip_fits
+pass_points-w-requires-clause-strip_fits c =
+    pass_has c.args.pass.stroke _ _ _ c.first_leg-leg.ensures c.requires.strip_fits c.begin-begun.ensures
 
 pub finish-requires : goal.finish-requires
 finish-requires c =
