@@ -1,5 +1,5 @@
 -- The options, their ranges, and what the rules use of them; the lengths of dashes stand in a list beside them. Assumes nothing.
-use Rattle.std.specs.Prelude.{ℕ, Bool, true, false, ◌&&◌, ◌||◌, cond, List, ltb, leb, eqb, Float}
+use Rattle.std.specs.Prelude.{ℕ, Bool, true, false, ◌&&◌, ◌||◌, cond, List, Result, Ok, Err, ltb, leb, eqb, Float}
 use Rattle.std.specs.Float.Ieee.{le}
 use Rattle.refusals.specs.Numbers.{number_of, accepted, verdict_of}
 use Rattle.refusals.specs.declared.Refusal.{Refusal}
@@ -14,8 +14,6 @@ use Rattle.options.specs.declared.LineCap.TheVariants as caps
 use Rattle.options.specs.declared.Options.{Options}
 use Rattle.options.specs.declared.Stroke.{Stroke}
 use Rattle.options.specs.declared.StrokeAnswer.{StrokeAnswer}
-use Rattle.options.specs.declared.Stroked.{Stroked}
-use Rattle.options.specs.declared.Stroked.TheVariants as stroked
 
 unfoldable pub within : Float → Float → Float → Bool
 within low x high = le low x && le x high
@@ -90,9 +88,9 @@ unfoldable pub stroke_of : Options → List Float → StrokeAnswer
 stroke_of o ds = pick (in_range o && pattern_in ds o.offset) (accepting (prepared_of o)) (refusing OutOfRange)
 
 -- what each case of `stroke_of`'s answer stands for
-abbrev pub stroke_answer_of : Stroked → StrokeAnswer
-stroke_answer_of (stroked.Stroke s) = accepting s
-stroke_answer_of (stroked.Refused r) = refusing r
+abbrev pub stroke_answer_of : Result Stroke Refusal → StrokeAnswer
+stroke_answer_of (Ok s) = accepting s
+stroke_answer_of (Err r) = refusing r
 
 -- W-209: "Add join 3 Round and cap 2 Round": which of them a stroke has
 abbrev pub rounds_joins : LineJoin → Bool

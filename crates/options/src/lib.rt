@@ -1,8 +1,10 @@
 // The options of a stroke, as a caller hands them over and as the rules use them: refusal 1 of document 01.
 #![tactic(auto)]
 
-ghost use Rattle.std.specs.Prelude.{◌≡◌};
-ghost use Rattle.options.specs.Options.{within, in_range, line_join_of, line_cap_of, clip_of, prepared_of, no_stroke, stroke_of, stroke_answer_of, rounds_joins, rounds_caps, is_round, level_of};
+ghost use Rattle.std.specs.Prelude.{◌≡◌, ◌&&◌, Ok, Err};
+ghost use Rattle.refusals.specs.declared.Refusal.TheVariants.{OutOfRange};
+ghost use Rattle.plane.specs.Normal.{pick};
+ghost use Rattle.options.specs.Options.{within, width_in, limit_in, merge_in, detail_in, join_in, cap_in, line_join_of, line_cap_of, clip_of, no_stroke, stroke_of, stroke_answer_of, rounds_joins, rounds_caps, is_round, level_of};
 
 use dashes::pattern::is_pattern;
 use endpoint::LineJoin;
@@ -55,15 +57,8 @@ pub struct Stroke {
     pub offset: f32,
 }
 
-// What `stroke_of` says: the options as the rules use them, or refusal 1.
-#[derive(Drop)]
-pub enum Stroked {
-    Stroke(Stroke),
-    Refused(Refusal),
-}
-
-// The same in the terms of document 01's table. A refusal has zeros, Miter and Butt.
-#[derive(Drop)]
+// What `stroke_of` says, in the terms of document 01's table. A refusal has zeros, Miter and Butt.
+#[derive(Clone, Copy)]
 pub struct StrokeAnswer {
     pub number: u32,
     pub place: usize,
@@ -71,88 +66,85 @@ pub struct StrokeAnswer {
 }
 
 // No NaN is within anything.
+#[tactic(auto, unfolding(crate::specs::Options::within))]
 fn is_within(low: f32, x: f32, high: f32) -> bool
     ensures { result ≡ within low x high }
 {
     low <= x && x <= high
 }
 
-// The least width, 1/256, is 0.00390625; the least merge range, 1/128, is 0.0078125.
+// All but the numbers of the join and the cap. The least width, 1/256, is 0.00390625; the least merge range, 1/128, is 0.0078125.
 fn is_in_range(o: Options) -> bool
-    ensures { result ≡ in_range o }
+    ensures { result ≡ (width_in o.width && limit_in o.miter_limit && merge_in o.merge_range && detail_in o.detail) }
 {
-    if !is_within(0.00390625, o.width, 16384.0) {
-        return false;
-    }
-    if !is_within(1.0, o.miter_limit, 1024.0) {
-        return false;
-    }
-    if !is_within(0.0078125, o.merge_range, 1.0) {
-        return false;
-    }
-    if 6 < o.detail {
-        return false;
-    }
-    o.line_join <= 3 && o.cap <= 2
+    is_within(0.00390625, o.width, 16384.0)
+        && is_within(1.0, o.miter_limit, 1024.0)
+        && is_within(0.0078125, o.merge_range, 1.0)
+        && o.detail <= 6
 }
 
-fn line_join_of(number: u32) -> LineJoin
-    ensures { result ≡ line_join_of number }
+// A function of its own: neither `TryFrom` nor `LineJoin` is this crate's.
+#[tactic(auto, unfolding(crate::specs::Options::line_join_of))]
+fn line_join_of(number: u32) -> Result<LineJoin, Refusal>
+    ensures { result ≡ pick (join_in number) (Ok (line_join_of number)) (Err OutOfRange) }
 {
     match number {
-        0 => LineJoin::Miter,
-        1 => LineJoin::MiterClip,
-        2 => LineJoin::Bevel,
-        _ => LineJoin::Round,
+        0 => Ok(LineJoin::Miter),
+        1 => Ok(LineJoin::MiterClip),
+        2 => Ok(LineJoin::Bevel),
+        3 => Ok(LineJoin::Round),
+        _ => Err(Refusal::OutOfRange),
     }
 }
 
-fn line_cap_of(number: u32) -> LineCap
-    ensures { result ≡ line_cap_of number }
-{
-    match number {
-        0 => LineCap::Butt,
-        1 => LineCap::Square,
-        _ => LineCap::Round,
+impl TryFrom<u32> for LineCap {
+    type Error = Refusal;
+
+    ghost try_from_gives = { λ number r. r ≡ pick (cap_in number) (Ok (line_cap_of number)) (Err OutOfRange) };
+
+    #[tactic(auto, unfolding(crate::specs::Options::line_cap_of))]
+    fn try_from(number: u32) -> Result<LineCap, Refusal> {
+        match number {
+            0 => Ok(LineCap::Butt),
+            1 => Ok(LineCap::Square),
+            2 => Ok(LineCap::Round),
+            _ => Err(Refusal::OutOfRange),
+        }
     }
 }
 
 // Rule 7.
-fn clip_of(number: u32, h: f32) -> f32
-    ensures { result ≡ clip_of (line_cap_of number) h }
+fn clip_of(cap: LineCap, h: f32) -> f32
+    ensures { result ≡ clip_of cap h }
 {
-    match line_cap_of(number) {
+    match cap {
         LineCap::Butt => 0.0,
         LineCap::Square => h,
         LineCap::Round => 0.0,
     }
 }
 
-// What options within their ranges come to.
-fn prepared(o: Options) -> Stroke
-    ensures { result ≡ prepared_of o }
+// lengths has those of the dashes; an empty list means no dashes.
+#[tactic(auto, unfolding(crate::specs::Options::stroke_of, crate::specs::Options::in_range, crate::specs::Options::prepared_of))]
+pub fn stroke_of(o: Options, lengths: &[f32]) -> Result<Stroke, Refusal>
+    ensures { stroke_answer_of result ≡ stroke_of o lengths.now }
 {
-    let h = o.width * 0.5;
-    Stroke {
-        half_width: h,
+    let line_join = line_join_of(o.line_join)?;
+    let cap = LineCap::try_from(o.cap)?;
+    if !is_in_range(o) || !is_pattern(lengths, o.offset) {
+        return Err(Refusal::OutOfRange);
+    }
+    let half_width = o.width * 0.5;
+    Ok(Stroke {
+        half_width,
         miter_limit: o.miter_limit,
-        line_join: line_join_of(o.line_join),
-        cap: line_cap_of(o.cap),
-        clip: clip_of(o.cap, h),
+        line_join,
+        cap,
+        clip: clip_of(cap, half_width),
         near: o.merge_range * o.merge_range,
         detail: o.detail,
         offset: o.offset,
-    }
-}
-
-// lengths has those of the dashes; an empty list means no dashes.
-pub fn stroke_of(o: Options, lengths: &[f32]) -> Stroked
-    ensures { stroke_answer_of result ≡ stroke_of o lengths.now }
-{
-    if is_in_range(o) & is_pattern(lengths, o.offset) {
-        return Stroked::Stroke(prepared(o));
-    }
-    Stroked::Refused(Refusal::OutOfRange)
+    })
 }
 
 fn no_stroke() -> Stroke
@@ -171,21 +163,23 @@ fn no_stroke() -> Stroke
 }
 
 // The number, the place and the values that an answer stands for.
-pub fn stroke_answer_of(s: Stroked) -> StrokeAnswer
-    ensures { result ≡ stroke_answer_of s }
-{
-    match s {
-        Stroked::Stroke(stroke) => StrokeAnswer {
-            number: Meaning::Accepted as u32,
-            place: 0,
-            stroke,
-        },
-        Stroked::Refused(r) => {
-            let verdict = verdict_of(r);
-            StrokeAnswer {
-                number: verdict.number,
-                place: verdict.place,
-                stroke: no_stroke(),
+impl From<Result<Stroke, Refusal>> for StrokeAnswer {
+    ghost from_gives = { λ r a. a ≡ stroke_answer_of r };
+
+    fn from(r: Result<Stroke, Refusal>) -> StrokeAnswer {
+        match r {
+            Ok(stroke) => StrokeAnswer {
+                number: Meaning::Accepted as u32,
+                place: 0,
+                stroke,
+            },
+            Err(refusal) => {
+                let verdict = verdict_of(refusal);
+                StrokeAnswer {
+                    number: verdict.number,
+                    place: verdict.place,
+                    stroke: no_stroke(),
+                }
             }
         }
     }
@@ -195,42 +189,27 @@ pub fn stroke_answer_of(s: Stroked) -> StrokeAnswer
 pub fn rounds_joins(j: LineJoin) -> bool
     ensures { result ≡ rounds_joins j }
 {
-    match j {
-        LineJoin::Miter => false,
-        LineJoin::MiterClip => false,
-        LineJoin::Bevel => false,
-        LineJoin::Round => true,
-    }
+    matches!(j, LineJoin::Round)
 }
 
 pub fn rounds_caps(c: LineCap) -> bool
     ensures { result ≡ rounds_caps c }
 {
-    match c {
-        LineCap::Butt => false,
-        LineCap::Square => false,
-        LineCap::Round => true,
-    }
+    matches!(c, LineCap::Round)
 }
 
 // Whether a stroke has arcs at all.
+#[tactic(auto, unfolding(crate::specs::Options::is_round))]
 pub fn is_round(o: Stroke) -> bool
     ensures { result ≡ is_round o }
 {
-    let j = o.line_join;
-    let c = o.cap;
-    rounds_joins(j) | rounds_caps(c)
+    rounds_joins(o.line_join) || rounds_caps(o.cap)
 }
 
 // How many levels deep its arcs go: 6 at the most, whatever a stroke says, so that no caller has to be asked.
+#[tactic(auto, unfolding(crate::specs::Options::level_of))]
 pub fn level_of(o: Stroke) -> u32
     ensures { result ≡ level_of o }
 {
-    if !is_round(o) {
-        return 0;
-    }
-    if o.detail < 6 {
-        return o.detail;
-    }
-    6
+    if is_round(o) { o.detail.min(6) } else { 0 }
 }

@@ -36,7 +36,7 @@ neither : (a b : Bool) → (a || b) ≡ false → (a ≡ false) × (b ≡ false)
 neither true b e = absurd (true≢false e)
 neither false b e = (refl, e)
 
-outside_le : (xs : List Float) → first_outside xs ≤ length xs
+pub outside_le : (xs : List Float) → first_outside xs ≤ length xs
 unfolding first_outside
 outside_le [] = omega arith
 outside_le (x ∷ xs) = go (coordinate_in x) (outside_le xs)

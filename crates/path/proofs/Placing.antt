@@ -1,35 +1,35 @@
 -- The verbs: where each may stand, by its number, and one pass over them, in which what was to come is still to come. Assumes nothing.
-use Prim.Native.Nat.{ℕ, zero, suc, ◌+◌, ◌≤◌, ◌<◌}
+use Prim.Native.Nat.{ℕ, suc, ◌+◌, ◌≤◌, ◌<◌}
 use mathlib.Core.Path.{◌≡◌, refl}
-use mathlib.Core.Bool.{Bool, true, false, not}
+use mathlib.Core.Bool.{Bool, true, false}
 use mathlib.Core.List.{List, [], ◌∷◌}
 use native.Mathlib.Omega.{arith}
 use native.Mathlib.Numerals.{add-one}
 use lib.ListN.{length, drop, get_or, drop_of_length-le}
 use lib.Seq.{drop-cons}
 use borrow.Author.Tests.{ne_eqb}
+use mir.Val.{bool_byte}
 use Rattle.plane.specs.Normal.{pick}
 use Rattle.path.specs.Verbs.{begin, line, end_open, end_closed, names, named, placed, first_misplaced, ends_inside, point_count, Scanned}
 
--- 0 stands outside a run, 1 to 3 inside one, and there are no others
-pub placed_begin : (inside : Bool) (v : ℕ) → v ≡ begin → not inside ≡ placed inside v
-unfolding placed
-placed_begin true v e = rw e
-placed_begin false v e = rw e
-
-pub placed_after : (inside : Bool) (v : ℕ) → (v ≡ begin → ⊥) → v < 4 → inside ≡ placed inside v
-unfolding placed
-placed_after inside zero n h = absurd (n refl)
-placed_after true (suc zero) n h = refl
-placed_after true (suc (suc zero)) n h = refl
-placed_after true (suc (suc (suc zero))) n h = refl
-placed_after true (suc (suc (suc (suc v)))) n h = absurd (omega arith)
-placed_after false (suc v) n h = rw (ne_eqb (suc v) begin n)
-
+-- 0 to 3 are verbs, and there are no others
 pub placed_unknown : (inside : Bool) (v : ℕ) → 4 ≤ v → false ≡ placed inside v
 unfolding placed
 placed_unknown true v h = rw (ne_eqb v line (λ e. omega arith), ne_eqb v end_open (λ e. omega arith), ne_eqb v end_closed (λ e. omega arith))
 placed_unknown false v h = rw (ne_eqb v begin (λ e. omega arith))
+
+-- a verb that names a point names one
+pub one_named : (v : ℕ) → bool_byte (names v) ≡ named v
+unfolding named
+one_named v = go (names v)
+  where
+    go : (t : Bool) → bool_byte t ≡ pick t 1 0
+    go true = refl
+    go false = refl
+
+pub one_at_most : (b : Bool) → bool_byte b ≤ 1
+one_at_most true = omega arith
+one_at_most false = omega arith
 
 pub named_le : (v : ℕ) → named v ≤ 1
 unfolding named

@@ -1,49 +1,36 @@
 // The coordinates of a path, and how large each may be.
-ghost use Rattle.std.specs.Prelude.{true, ◌≡◌, length};
+ghost use Rattle.std.specs.Prelude.{◌≡◌, ◌<◌, ◌&&◌, true, not, length, position, MatchOption};
+ghost use Rattle.std.specs.List.{fold};
 ghost use Rattle.path.specs.Coordinates.{coordinate_in, first_outside};
 
 // No NaN is at most 32,768 in size, nor is an infinity.
+#[tactic(auto, unfolding(crate::specs::Coordinates::coordinate_in))]
 fn is_in_limits(x: f32) -> bool
     ensures { result ≡ coordinate_in x }
 {
     -32768.0 <= x && x <= 32768.0
 }
 
-// Whether all are. The loop does not end early, so that the compiler takes several coordinates at a time.
+// Whether all are. The fold does not end early, so that the compiler takes several coordinates at a time.
 fn are_in_limits(coords: &[f32]) -> bool
-    ensures { result ≡ true → length coords.now ≡ first_outside coords.now }
+    ensures { result ≡ fold (λ t x. t && coordinate_in x) true coords.now }
 {
-    let mut all = true;
-    let mut i: usize = 0;
-    while i < coords.len() {
-        let x = coords[i];
-        all = all & is_in_limits(x);
-        i += 1;
-    }
-    all
+    coords.iter().fold(true, |all, x| all & is_in_limits(*x))
 }
 
-// The first that is not, or their number.
-fn search(coords: &[f32]) -> usize
-    ensures { result ≡ first_outside coords.now }
+// The index of the first that is not.
+fn search(coords: &[f32]) -> Option<usize>
+    ensures { result ≡ position (λ x. not (coordinate_in x)) coords.now }
 {
-    let mut i: usize = 0;
-    while i < coords.len() {
-        let x = coords[i];
-        if !is_in_limits(x) {
-            return i;
-        }
-        i += 1;
-    }
-    i
+    coords.iter().position(|x| !is_in_limits(*x))
 }
 
-// The index of the first coordinate that is not finite or too large, or the number of coordinates.
-pub fn first_outside(coords: &[f32]) -> usize
-    ensures { result ≡ first_outside coords.now }
+// The index of the first coordinate that is not finite or too large.
+pub fn first_outside(coords: &[f32]) -> Option<usize>
+    ensures { MatchOption result (length coords.now ≡ first_outside coords.now) (λ i. (i ≡ first_outside coords.now) × (i < length coords.now)) }
 {
     if are_in_limits(coords) {
-        return coords.len();
+        return None;
     }
     search(coords)
 }

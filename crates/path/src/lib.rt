@@ -11,48 +11,33 @@ use coordinates::first_outside;
 use refusals::{Meaning, Refusal, Verdict, verdict_of};
 use verbs::{VERB_LIMIT, scan_verbs};
 
-// What `check_path` says: that all is well, or the first refusal by number.
-#[derive(Drop)]
-pub enum Checked {
-    Accepted,
-    Refused(Refusal),
-}
-
 // All of 3 is judged before any 4.
-pub fn check_path(verbs: &[u8], coords: &[f32]) -> Checked
+pub fn check_path(verbs: &[u8], coords: &[f32]) -> Result<(), Refusal>
     ensures { check_answer_of result ≡ checked_of verbs.now coords.now }
 {
     if verbs.len() > VERB_LIMIT {
-        return Checked::Refused(Refusal::TooManyVerbs);
+        return Err(Refusal::TooManyVerbs);
     }
     let scan = scan_verbs(verbs);
-    let place = scan.place;
-    if place < verbs.len() {
-        return Checked::Refused(Refusal::Verb(place));
+    // Where no verb is misplaced, the place is their number.
+    if scan.place < verbs.len() || scan.inside || coords.len() != 2 * scan.points {
+        return Err(Refusal::Verb(scan.place));
     }
-    // From here on the place is the number of verbs.
-    if scan.inside {
-        return Checked::Refused(Refusal::Verb(place));
+    if let Some(place) = first_outside(coords) {
+        return Err(Refusal::Coordinate(place));
     }
-    if coords.len() != 2 * scan.points {
-        return Checked::Refused(Refusal::Verb(place));
-    }
-    let outside = first_outside(coords);
-    if outside < coords.len() {
-        return Checked::Refused(Refusal::Coordinate(outside));
-    }
-    Checked::Accepted
+    Ok(())
 }
 
-// The number and the place that an answer stands for.
-pub fn check_answer_of(c: Checked) -> Verdict
+// The number and the place that an answer stands for. No `From`: neither type is this crate's.
+pub fn check_answer_of(c: Result<(), Refusal>) -> Verdict
     ensures { result ≡ check_answer_of c }
 {
     match c {
-        Checked::Accepted => Verdict {
+        Ok(()) => Verdict {
             number: Meaning::Accepted as u32,
             place: 0,
         },
-        Checked::Refused(r) => verdict_of(r),
+        Err(r) => verdict_of(r),
     }
 }
