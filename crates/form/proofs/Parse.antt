@@ -16,7 +16,7 @@ use Rattle.form.specs.declared.machine.Axis.TheVariants.{X, Y, Alone}
 use Rattle.form.specs.declared.machine.Mode.{Mode}
 use Rattle.form.specs.declared.machine.Stage.{Stage}
 use Rattle.form.specs.declared.machine.Stage.TheVariants.{Start, Closed, Want, Signed, Whole, Pointed, Fraction, Gap, Lost}
-use Rattle.form.specs.declared.machine.Letters.TheVariants.{Between}
+use Rattle.form.specs.declared.machine.Stand.TheVariants.{Between}
 use Rattle.form.specs.Bytes.{class_of}
 use Rattle.form.specs.Form.{Byte, Blanks, Digits, bytes, Places, places, Tail, none, point, tail, Decimal, digits, dotted, decimal, Number, bare, signed, number, tail_point, decimal_point, has_point, Next, spaced}
 use Rattle.form.specs.Form.{parted, joined, abutted, next, number_of, More, stop, more, numbers, Points, points, Drawing, move, line, along, close, commands, Text, empty, drawn, text, HasForm}

@@ -15,7 +15,7 @@ use Rattle.form.specs.declared.classes.Letter.TheVariants.{Move}
 use Rattle.form.specs.declared.classes.Class.TheVariants.{Blank, Comma, Sign, Digit, Dot, Command, Other}
 use Rattle.form.specs.Bytes.{class_of}
 use Rattle.form.specs.Form.{HasForm, Begins, Wrong}
-use Rattle.form.specs.Machine.{start, row_of, next_of, final, is_lost, may_end, stop}
+use Rattle.form.specs.Machine.{start, row_of, lost_by, next_of, final, is_lost, may_end, stop}
 use Rattle.form.proofs.Taken.{never, form_ends}
 use Rattle.form.proofs.Parse.{taken_form}
 
@@ -46,7 +46,7 @@ rest Fraction a = rest_after a
 rest Gap a = rest_before a
 rest Lost a = []
 
-ended : (g : Stage) (a : Axis) (n : ℕ) → (row_of g).stand.lost ≡ false → may_end (final (record { stage = g; axis = a; places = n }) (rest g a)) ≡ true
+ended : (g : Stage) (a : Axis) (n : ℕ) → lost_by (row_of g).stand ≡ false → may_end (final (record { stage = g; axis = a; places = n }) (rest g a)) ≡ true
 unfolding rest rest_after rest_before class_of
 ended Start a n e = refl
 ended Closed a n e = refl
@@ -80,7 +80,7 @@ lost_next a n Dot = refl
 lost_next a n (Command l) = refl
 lost_next a n Other = refl
 
-pub is_lost_lem : (g : Stage) → (row_of g).stand.lost ≡ true → g ≡ Lost
+pub is_lost_lem : (g : Stage) → lost_by (row_of g).stand ≡ true → g ≡ Lost
 is_lost_lem Start e = absurd (never e)
 is_lost_lem Closed e = absurd (never e)
 is_lost_lem Want e = absurd (never e)
@@ -94,7 +94,7 @@ is_lost_lem Lost e = refl
 pub stays_lost : (m : Mode) (k : Class) → is_lost m ≡ true → is_lost (next_of m k) ≡ true
 stays_lost m k e =
     let l = is_lost_lem m.stage e in
-    ap (λ g. is_lost (next_of (record { stage = g; axis = m.axis; places = m.places }) k)) l ∙ ap (λ g. (row_of g).stand.lost) (lost_next m.axis m.places k)
+    ap (λ g. is_lost (next_of (record { stage = g; axis = m.axis; places = m.places }) k)) l ∙ ap (λ g. lost_by (row_of g).stand) (lost_next m.axis m.places k)
 
 pub lost_final : (m : Mode) (s : List ℕ) → is_lost m ≡ true → is_lost (final m s) ≡ true
 lost_final m [] e = e

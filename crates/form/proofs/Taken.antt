@@ -14,7 +14,7 @@ use Rattle.form.specs.declared.machine.Axis.{Axis}
 use Rattle.form.specs.declared.machine.Axis.TheVariants.{X, Alone}
 use Rattle.form.specs.declared.machine.Mode.{Mode}
 use Rattle.form.specs.declared.machine.Stage.TheVariants.{Closed, Want, Signed, Whole, Pointed, Gap, Lost}
-use Rattle.form.specs.declared.machine.Letters.TheVariants.{Between}
+use Rattle.form.specs.declared.machine.Stand.TheVariants.{Between}
 use Rattle.form.specs.Form.{Byte, Blanks, Digits, bytes, Places, places, Tail, none, point, tail, Decimal, digits, dotted, decimal, Number, bare, signed, number, tail_point, decimal_point, has_point, Next, spaced}
 use Rattle.form.specs.Form.{parted, joined, abutted, next, number_of, More, stop, more, numbers, Points, points, Drawing, move, line, along, close, command, commands, Text, empty, drawn, text}
 use Rattle.form.specs.Machine.{at, start, deep, after, ends_point, any_letter, lettered_of, next_of, final, is_lost, may_end}

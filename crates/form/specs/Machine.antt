@@ -9,12 +9,11 @@ use Rattle.form.specs.declared.machine.Axis.TheVariants.{X, Y, Alone}
 use Rattle.form.specs.declared.machine.Stage.{Stage}
 use Rattle.form.specs.declared.machine.Stage.TheVariants.{Start, Closed, Want, Signed, Whole, Pointed, Fraction, Gap, Lost}
 use Rattle.form.specs.declared.machine.Mode.{Mode}
-use Rattle.form.specs.declared.machine.Letters.{Letters}
-use Rattle.form.specs.declared.machine.Letters.TheVariants.{NoLetter, FirstMove, AnyLetter, Between}
 use Rattle.form.specs.declared.machine.Going.{Going}
 use Rattle.form.specs.declared.machine.Going.TheVariants.{Fresh, Opened, InWhole, AtPoint, InFraction}
 use Rattle.form.specs.declared.machine.Row.{Row}
 use Rattle.form.specs.declared.machine.Stand.{Stand}
+use Rattle.form.specs.declared.machine.Stand.TheVariants.{Nowhere, Amid, Before, Behind, Between}
 use Rattle.form.specs.Bytes.{class_of}
 
 -- the axis of the number that follows one, and whether a number is the first or the last of a point
@@ -31,41 +30,21 @@ begins_point Alone = true
 abbrev pub ends_point : Axis → Bool
 ends_point a = begins_point (after a)
 
--- How a text stands to its commands: the letters that may follow, and whether no text of the form begins so.
-abbrev pub nowhere : Stand
-nowhere = record { letters = NoLetter; lost = true }
-
--- in the numbers of a command, more of which must follow
-abbrev pub amid : Stand
-amid = record { letters = NoLetter; lost = false }
-
--- "text is empty or begins with M"
-abbrev pub before : Stand
-before = record { letters = FirstMove; lost = false }
-
--- after Z: "L after Z begins a run", "Z after Z adds nothing"
-abbrev pub behind : Stand
-behind = record { letters = AnyLetter; lost = false }
-
--- after a number: any, where no pair is half read
-abbrev pub between : Stand
-between = record { letters = Between; lost = false }
-
 abbrev pub cells_of : Stage → Stage → Stage → Stage → Stage → Stand → Going → Row
 cells_of blank comma sign digit dot stand going = record { blank = blank; comma = comma; sign = sign; digit = digit; dot = dot; stand = stand; going = going }
 
--- The table, a row to each stage. By columns: the stages after white space, a comma, a sign, a digit and a point; the commands; the number that a text
--- is in, with which a digit or a point goes on.
+-- The table, a row to each stage. By columns: the stages after white space, a comma, a sign, a digit and a point; the commands ("text is empty or begins
+-- with M", "L after Z begins a run", "Z after Z adds nothing"; between numbers any, where no pair is half read); the number that a text is in, with which a digit or a point goes on.
 abbrev pub row_of : Stage → Row
-row_of Start = cells_of Start Lost Lost Lost Lost before Fresh
-row_of Closed = cells_of Closed Lost Lost Lost Lost behind Fresh
-row_of Want = cells_of Want Lost Signed Whole Pointed amid Fresh
-row_of Signed = cells_of Lost Lost Lost Whole Pointed amid Opened
-row_of Whole = cells_of Gap Want Signed Whole Pointed between InWhole
-row_of Pointed = cells_of Lost Lost Lost Fraction Lost amid AtPoint
-row_of Fraction = cells_of Gap Want Signed Fraction Pointed between InFraction
-row_of Gap = cells_of Gap Want Signed Whole Pointed between Fresh
-row_of Lost = cells_of Lost Lost Lost Lost Lost nowhere Fresh
+row_of Start = cells_of Start Lost Lost Lost Lost Before Fresh
+row_of Closed = cells_of Closed Lost Lost Lost Lost Behind Fresh
+row_of Want = cells_of Want Lost Signed Whole Pointed Amid Fresh
+row_of Signed = cells_of Lost Lost Lost Whole Pointed Amid Opened
+row_of Whole = cells_of Gap Want Signed Whole Pointed Between InWhole
+row_of Pointed = cells_of Lost Lost Lost Fraction Lost Amid AtPoint
+row_of Fraction = cells_of Gap Want Signed Fraction Pointed Between InFraction
+row_of Gap = cells_of Gap Want Signed Whole Pointed Between Fresh
+row_of Lost = cells_of Lost Lost Lost Lost Lost Nowhere Fresh
 
 -- a stage, in or before the number of an axis
 abbrev pub at : Stage → Axis → Mode
@@ -131,10 +110,11 @@ first_letter Line = at Lost X
 first_letter Along = at Lost X
 first_letter Close = at Lost X
 
-abbrev pub lettered_of : Letters → Axis → Letter → Mode
-lettered_of NoLetter a l = at Lost X
-lettered_of FirstMove a l = first_letter l
-lettered_of AnyLetter a l = any_letter l
+abbrev pub lettered_of : Stand → Axis → Letter → Mode
+lettered_of Nowhere a l = at Lost X
+lettered_of Amid a l = at Lost X
+lettered_of Before a l = first_letter l
+lettered_of Behind a l = any_letter l
 lettered_of Between a l = cond (begins_point a) (any_letter l) (at Lost X)
 
 -- the mode after a byte of a class, where the axis is a once a number has ended
@@ -147,41 +127,50 @@ stage_after g Dot = (row_of g).dot
 stage_after g (Command l) = Lost
 stage_after g Other = Lost
 
-abbrev pub next_at : Mode → Axis → Letters → Stage → Class → Mode
-next_at m a letters g Blank = at g a
-next_at m a letters g Comma = at g a
-next_at m a letters g Sign = at g a
-next_at m a letters g Digit = digit_of m
-next_at m a letters g Dot = at g a
-next_at m a letters g (Command l) = lettered_of letters a l
-next_at m a letters g Other = at g a
+abbrev pub next_at : Mode → Axis → Stand → Stage → Class → Mode
+next_at m a stand g Blank = at g a
+next_at m a stand g Comma = at g a
+next_at m a stand g Sign = at g a
+next_at m a stand g Digit = digit_of m
+next_at m a stand g Dot = at g a
+next_at m a stand g (Command l) = lettered_of stand a l
+next_at m a stand g Other = at g a
 
 abbrev pub next_of : Mode → Class → Mode
 next_of m k =
     let r = row_of m.stage in
-    next_at m (axis_at (ends_before r.going k) m.axis) r.stand.letters (stage_after m.stage k) k
+    next_at m (axis_at (ends_before r.going k) m.axis) r.stand (stage_after m.stage k) k
 
 -- where a text leads
 abbrev pub final : Mode → List ℕ → Mode
 final m [] = m
 final m (b ∷ s) = final (next_of m (class_of b)) s
 
+-- whether no text of the form begins so
+abbrev pub lost_by : Stand → Bool
+lost_by Nowhere = true
+lost_by Amid = false
+lost_by Before = false
+lost_by Behind = false
+lost_by Between = false
+
 abbrev pub is_lost : Mode → Bool
-is_lost m = (row_of m.stage).stand.lost
+is_lost m = lost_by (row_of m.stage).stand
 
 -- a text may end where an M may follow
 abbrev pub may_end : Mode → Bool
 may_end m = not (is_lost (next_of m (Command Move)))
 
 -- whether a run is open where a letter may follow
-abbrev pub inside_by : Letters → Axis → Bool
-inside_by NoLetter a = false
-inside_by FirstMove a = false
-inside_by AnyLetter a = false
+abbrev pub inside_by : Stand → Axis → Bool
+inside_by Nowhere a = false
+inside_by Amid a = false
+inside_by Before a = false
+inside_by Behind a = false
 inside_by Between a = begins_point a
 
 abbrev pub is_inside : Stage → Axis → Bool
-is_inside g a = inside_by (row_of g).stand.letters a
+is_inside g a = inside_by (row_of g).stand a
 
 -- how many bytes it takes until it is lost
 unfoldable pub stop : Mode → List ℕ → ℕ

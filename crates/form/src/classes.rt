@@ -28,15 +28,12 @@ pub enum Class {
 }
 
 // A digit first, since most bytes are one. 0x0C is the form feed.
+#[tactic(auto, unfolding(crate::specs::Bytes::class_of))]
 pub fn class_of(b: u8) -> Class
     ensures { result ≡ class_of b }
 {
-    if b'0' <= b {
-        if b <= b'9' {
-            return Class::Digit;
-        }
-    }
     match b {
+        b'0'..=b'9' => Class::Digit,
         b' ' | b'\t' | b'\n' | 0x0C | b'\r' => Class::Blank,
         b',' => Class::Comma,
         b'+' | b'-' => Class::Sign,

@@ -1,13 +1,12 @@
 // The form, byte by byte: where a text stands, and what that allows.
 ghost use Rattle.std.specs.Prelude.{◌≡◌};
 ghost use Rattle.form.specs.Machine.{at, start, cells_of, row_of, after, begins_point, ends_point, ends_here, second_dot, ends_before, axis_at, deep, deeper, digit_by, digit_of, any_letter, first_letter, lettered_of, stage_after, next_at, next_of, is_lost, is_inside};
-ghost use Rattle.form.specs.declared.machine.Letters.TheVariants.{Between};
 
 use crate::classes::{Class, Letter};
 use crate::machine::Axis::{Alone, X, Y};
 use crate::machine::Going::{AtPoint, Fresh, InFraction, InWhole, Opened};
-use crate::machine::Letters::{AnyLetter, Between, FirstMove, NoLetter};
 use crate::machine::Stage::{Closed, Fraction, Gap, Lost, Pointed, Signed, Start, Want, Whole};
+use crate::machine::Stand::{Amid, Before, Behind, Between, Nowhere};
 
 // Which number of a command a text is at: x or y of a pair, or the one of H and V.
 #[derive(Clone, Copy)]
@@ -49,16 +48,6 @@ pub struct Mode {
     pub places: u8,
 }
 
-// The letters that may follow.
-#[derive(Drop)]
-pub enum Letters {
-    NoLetter,
-    FirstMove,
-    AnyLetter,
-    // Any, where no pair is half read.
-    Between,
-}
-
 // The number that a text is in, with which a digit or a point goes on: none, one behind its sign, before its point, at once behind
 // it, or later.
 #[derive(Clone, Copy)]
@@ -70,16 +59,23 @@ pub enum Going {
     InFraction,
 }
 
-// How a text stands to its commands.
-#[derive(Drop)]
-pub struct Stand {
-    pub letters: Letters,
+// How a text stands to its commands: which letters may follow.
+#[derive(Clone, Copy)]
+pub enum Stand {
     // No text of the form begins so.
-    pub lost: bool,
+    Nowhere,
+    // None, in the numbers of a command, more of which must follow.
+    Amid,
+    // Before the first command, which is an M.
+    Before,
+    // Any, after a Z.
+    Behind,
+    // Any after a number, where no pair is half read.
+    Between,
 }
 
 // All that is to be known of a stage.
-#[derive(Drop)]
+#[derive(Clone, Copy)]
 pub struct Row {
     // The stages after white space, a comma, a sign, a digit and a point.
     pub blank: Stage,
@@ -91,35 +87,7 @@ pub struct Row {
     pub going: Going,
 }
 
-const NOWHERE: Stand = Stand {
-    letters: NoLetter,
-    lost: true,
-};
-
-// In the numbers of a command, more of which must follow.
-const AMID: Stand = Stand {
-    letters: NoLetter,
-    lost: false,
-};
-
-// Before the first command, which is an M.
-const BEFORE: Stand = Stand {
-    letters: FirstMove,
-    lost: false,
-};
-
-// After a Z.
-const BEHIND: Stand = Stand {
-    letters: AnyLetter,
-    lost: false,
-};
-
-// After a number.
-const BETWEEN: Stand = Stand {
-    letters: Between,
-    lost: false,
-};
-
+// A function, and no literal at each row: so a row of the table stands on one line.
 fn cells(
     blank: Stage,
     comma: Stage,
@@ -132,13 +100,13 @@ fn cells(
     ensures { result ≡ cells_of blank comma sign digit dot stand going }
 {
     Row {
-        blank: blank,
-        comma: comma,
-        sign: sign,
-        digit: digit,
-        dot: dot,
-        stand: stand,
-        going: going,
+        blank,
+        comma,
+        sign,
+        digit,
+        dot,
+        stand,
+        going,
     }
 }
 
@@ -147,15 +115,15 @@ pub fn row_of(g: Stage) -> Row
     ensures { result ≡ row_of g }
 {
     match g {
-        Stage::Start => cells(Start, Lost, Lost, Lost, Lost, BEFORE, Fresh),
-        Stage::Closed => cells(Closed, Lost, Lost, Lost, Lost, BEHIND, Fresh),
-        Stage::Want => cells(Want, Lost, Signed, Whole, Pointed, AMID, Fresh),
-        Stage::Signed => cells(Lost, Lost, Lost, Whole, Pointed, AMID, Opened),
-        Stage::Whole => cells(Gap, Want, Signed, Whole, Pointed, BETWEEN, InWhole),
-        Stage::Pointed => cells(Lost, Lost, Lost, Fraction, Lost, AMID, AtPoint),
-        Stage::Fraction => cells(Gap, Want, Signed, Fraction, Pointed, BETWEEN, InFraction),
-        Stage::Gap => cells(Gap, Want, Signed, Whole, Pointed, BETWEEN, Fresh),
-        Stage::Lost => cells(Lost, Lost, Lost, Lost, Lost, NOWHERE, Fresh),
+        Stage::Start => cells(Start, Lost, Lost, Lost, Lost, Before, Fresh),
+        Stage::Closed => cells(Closed, Lost, Lost, Lost, Lost, Behind, Fresh),
+        Stage::Want => cells(Want, Lost, Signed, Whole, Pointed, Amid, Fresh),
+        Stage::Signed => cells(Lost, Lost, Lost, Whole, Pointed, Amid, Opened),
+        Stage::Whole => cells(Gap, Want, Signed, Whole, Pointed, Between, InWhole),
+        Stage::Pointed => cells(Lost, Lost, Lost, Fraction, Lost, Amid, AtPoint),
+        Stage::Fraction => cells(Gap, Want, Signed, Fraction, Pointed, Between, InFraction),
+        Stage::Gap => cells(Gap, Want, Signed, Whole, Pointed, Between, Fresh),
+        Stage::Lost => cells(Lost, Lost, Lost, Lost, Lost, Nowhere, Fresh),
     }
 }
 
@@ -174,11 +142,7 @@ fn axis_after(a: Axis) -> Axis
 fn begins_point(a: Axis) -> bool
     ensures { result ≡ begins_point a }
 {
-    match a {
-        Axis::X => true,
-        Axis::Y => false,
-        Axis::Alone => true,
-    }
+    matches!(a, X | Alone)
 }
 
 // Whether it completes a point.
@@ -192,26 +156,14 @@ pub fn ends_point(a: Axis) -> bool
 fn ends_here(g: Going) -> bool
     ensures { result ≡ ends_here g }
 {
-    match g {
-        Going::Fresh => false,
-        Going::Opened => false,
-        Going::InWhole => true,
-        Going::AtPoint => false,
-        Going::InFraction => true,
-    }
+    matches!(g, InWhole | InFraction)
 }
 
 // A second point ends a number, the first goes on with it.
 fn second_dot(g: Going) -> bool
     ensures { result ≡ second_dot g }
 {
-    match g {
-        Going::Fresh => false,
-        Going::Opened => false,
-        Going::InWhole => false,
-        Going::AtPoint => false,
-        Going::InFraction => true,
-    }
+    matches!(g, InFraction)
 }
 
 // Whether a number ends before a byte of a class: it goes on with a digit, and with its first point.
@@ -219,13 +171,9 @@ pub fn ends_before(g: Going, k: Class) -> bool
     ensures { result ≡ ends_before g k }
 {
     match k {
-        Class::Blank => ends_here(g),
-        Class::Comma => ends_here(g),
-        Class::Sign => ends_here(g),
         Class::Digit => false,
         Class::Dot => second_dot(g),
-        Class::Command(_) => ends_here(g),
-        Class::Other => ends_here(g),
+        _ => ends_here(g),
     }
 }
 
@@ -236,24 +184,24 @@ pub fn axis_at(ended: bool, a: Axis) -> Axis
     if ended { axis_after(a) } else { a }
 }
 
-fn at(g: Stage, a: Axis) -> Mode
-    ensures { result ≡ at g a }
+fn at(stage: Stage, axis: Axis) -> Mode
+    ensures { result ≡ at stage axis }
 {
     Mode {
-        stage: g,
-        axis: a,
+        stage,
+        axis,
         places: 0,
     }
 }
 
 // So many digits after the point.
-fn deep(a: Axis, places: u8) -> Mode
-    ensures { result ≡ deep a places }
+fn deep(axis: Axis, places: u8) -> Mode
+    ensures { result ≡ deep axis places }
 {
     Mode {
         stage: Fraction,
-        axis: a,
-        places: places,
+        axis,
+        places,
     }
 }
 
@@ -273,11 +221,9 @@ fn digit_by(going: Going, g: Stage, a: Axis, places: u8) -> Mode
     ensures { result ≡ digit_by going g a places }
 {
     match going {
-        Going::Fresh => at(g, a),
-        Going::Opened => at(g, a),
-        Going::InWhole => at(g, a),
-        Going::AtPoint => deep(a, 1),
-        Going::InFraction => deeper(a, places),
+        Fresh | Opened | InWhole => at(g, a),
+        AtPoint => deep(a, 1),
+        InFraction => deeper(a, places),
     }
 }
 
@@ -285,18 +231,14 @@ fn digit(m: Mode) -> Mode
     ensures { result ≡ digit_of m }
 {
     let g = m.stage;
-    let a = m.axis;
-    let going = row_of(g).going;
-    let stage = row_of(g).digit;
-    digit_by(going, stage, a, m.places)
+    digit_by(row_of(g).going, row_of(g).digit, m.axis, m.places)
 }
 
 fn any_letter(l: Letter) -> Mode
     ensures { result ≡ any_letter l }
 {
     match l {
-        Letter::Move => at(Want, X),
-        Letter::Line => at(Want, X),
+        Letter::Move | Letter::Line => at(Want, X),
         Letter::Along => at(Want, Alone),
         Letter::Close => at(Closed, X),
     }
@@ -307,30 +249,18 @@ fn first_letter(l: Letter) -> Mode
 {
     match l {
         Letter::Move => at(Want, X),
-        Letter::Line => at(Lost, X),
-        Letter::Along => at(Lost, X),
-        Letter::Close => at(Lost, X),
+        _ => at(Lost, X),
     }
 }
 
-fn letter_between(a: Axis, l: Letter) -> Mode
-    ensures { result ≡ lettered_of Between a l }
+fn lettered(stand: Stand, a: Axis, l: Letter) -> Mode
+    ensures { result ≡ lettered_of stand a l }
 {
-    if begins_point(a) {
-        any_letter(l)
-    } else {
-        at(Lost, X)
-    }
-}
-
-fn lettered(allowed: Letters, a: Axis, l: Letter) -> Mode
-    ensures { result ≡ lettered_of allowed a l }
-{
-    match allowed {
-        Letters::NoLetter => at(Lost, X),
-        Letters::FirstMove => first_letter(l),
-        Letters::AnyLetter => any_letter(l),
-        Letters::Between => letter_between(a, l),
+    match stand {
+        Before => first_letter(l),
+        Behind => any_letter(l),
+        Between if begins_point(a) => any_letter(l),
+        _ => at(Lost, X),
     }
 }
 
@@ -345,23 +275,18 @@ fn stage_after(g: Stage, k: Class) -> Stage
         Class::Sign => row_of(g).sign,
         Class::Digit => row_of(g).digit,
         Class::Dot => row_of(g).dot,
-        Class::Command(_) => Lost,
-        Class::Other => Lost,
+        _ => Lost,
     }
 }
 
 // The mode after a byte of a class, where the axis is n once a number has ended.
-fn next_at(m: Mode, n: Axis, letters: Letters, stage: Stage, k: Class) -> Mode
-    ensures { result ≡ next_at m n letters stage k }
+fn next_at(m: Mode, n: Axis, stand: Stand, stage: Stage, k: Class) -> Mode
+    ensures { result ≡ next_at m n stand stage k }
 {
     match k {
-        Class::Blank => at(stage, n),
-        Class::Comma => at(stage, n),
-        Class::Sign => at(stage, n),
         Class::Digit => digit(m),
-        Class::Dot => at(stage, n),
-        Class::Command(l) => lettered(letters, n, l),
-        Class::Other => at(stage, n),
+        Class::Command(l) => lettered(stand, n, l),
+        _ => at(stage, n),
     }
 }
 
@@ -369,34 +294,22 @@ pub fn next(m: Mode, k: Class) -> Mode
     ensures { result ≡ next_of m k }
 {
     let g = m.stage;
-    let a = m.axis;
-    let going = row_of(g).going;
-    let stand = row_of(g).stand;
-    let letters = stand.letters;
-    let n = axis_at(ends_before(going, k), a);
-    next_at(m, n, letters, stage_after(g, k), k)
+    let n = axis_at(ends_before(row_of(g).going, k), m.axis);
+    next_at(m, n, row_of(g).stand, stage_after(g, k), k)
 }
 
 // No text of the form begins so.
 pub fn is_lost(m: Mode) -> bool
     ensures { result ≡ is_lost m }
 {
-    let g = m.stage;
-    row_of(g).stand.lost
+    matches!(row_of(m.stage).stand, Nowhere)
 }
 
 // Whether a run is open where a letter may follow, before a number of an axis.
 pub fn is_inside(g: Stage, a: Axis) -> bool
     ensures { result ≡ is_inside g a }
 {
-    let stand = row_of(g).stand;
-    let letters = stand.letters;
-    match letters {
-        Letters::NoLetter => false,
-        Letters::FirstMove => false,
-        Letters::AnyLetter => false,
-        Letters::Between => begins_point(a),
-    }
+    matches!(row_of(g).stand, Between) && begins_point(a)
 }
 
 // Before the first byte.

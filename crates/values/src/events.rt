@@ -1,6 +1,6 @@
 // What a path text calls for.
 ghost use Rattle.std.specs.Prelude.{◌≡◌};
-ghost use Rattle.values.specs.Events.{point_at, number_at, end_of, close_of, go_on_of, command_of, letter_of};
+ghost use Rattle.values.specs.Events.{point_at, number_at, command_of, letter_of};
 
 use crate::pen::Pen;
 use form::classes::{Class, Letter};
@@ -24,14 +24,12 @@ pub enum Event {
 fn point_at(before: Pen, now: Pen, a: Axis, end: usize) -> Event
     ensures { result ≡ point_at before now a end }
 {
-    if ends_point(a) {
-        if before.fresh {
-            Event::Begin(now.x, now.y, end)
-        } else {
-            Event::Line(now.x, now.y, end)
-        }
-    } else {
+    if !ends_point(a) {
         Event::Nothing
+    } else if before.fresh {
+        Event::Begin(now.x, now.y, end)
+    } else {
+        Event::Line(now.x, now.y, end)
     }
 }
 
@@ -53,47 +51,15 @@ pub(crate) fn number_at(
     }
 }
 
-// By M or the end of the text.
-fn end(inside: bool, end: usize) -> Event
-    ensures { result ≡ end_of inside end }
-{
-    if inside {
-        Event::EndOpen(end)
-    } else {
-        Event::Nothing
-    }
-}
-
-// By Z.
-fn close(inside: bool, end: usize) -> Event
-    ensures { result ≡ close_of inside end }
-{
-    if inside {
-        Event::EndClosed(end)
-    } else {
-        Event::Nothing
-    }
-}
-
-// By a line, which after Z begins a run.
-fn go_on(inside: bool, p: Pen, end: usize) -> Event
-    ensures { result ≡ go_on_of inside p end }
-{
-    if inside {
-        Event::Nothing
-    } else {
-        Event::Begin(p.first_x, p.first_y, end)
-    }
-}
-
+// Inside a run M, or the end of the text, and Z end it; behind one a line begins the next.
 fn command(inside: bool, p: Pen, l: Letter, behind: usize) -> Event
     ensures { result ≡ command_of inside p l behind }
 {
-    match l {
-        Letter::Move => end(inside, behind),
-        Letter::Line => go_on(inside, p, behind),
-        Letter::Along => go_on(inside, p, behind),
-        Letter::Close => close(inside, behind),
+    match (l, inside) {
+        (Letter::Move, true) => Event::EndOpen(behind),
+        (Letter::Close, true) => Event::EndClosed(behind),
+        (Letter::Line | Letter::Along, false) => Event::Begin(p.first_x, p.first_y, behind),
+        _ => Event::Nothing,
     }
 }
 
@@ -102,12 +68,7 @@ pub(crate) fn letter(inside: bool, p: Pen, k: Class, behind: usize) -> Event
     ensures { result ≡ letter_of inside p k behind }
 {
     match k {
-        Class::Blank => Event::Nothing,
-        Class::Comma => Event::Nothing,
-        Class::Sign => Event::Nothing,
-        Class::Digit => Event::Nothing,
-        Class::Dot => Event::Nothing,
         Class::Command(l) => command(inside, p, l, behind),
-        Class::Other => Event::Nothing,
+        _ => Event::Nothing,
     }
 }

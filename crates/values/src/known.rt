@@ -1,7 +1,7 @@
 // What is known of a path text beside its mode: the pen, and the number that is being read.
 ghost use Rattle.std.specs.Prelude.{◌≡◌, ◌≤◌};
 ghost use Rattle.form.specs.Bytes.{class_of};
-ghost use Rattle.values.specs.Known.{nothing_known, with_number, with_whole, with_fraction, with_pen, digit_taken, dot_taken, taken_of};
+ghost use Rattle.values.specs.Known.{nothing_known, with_number, digit_taken, dot_taken, taken_of};
 
 use crate::pen::{Pen, lettered, resting};
 use decimals::digits::{fraction_digit, whole_digit};
@@ -31,40 +31,16 @@ pub(crate) fn nothing_known() -> Known
     }
 }
 
-fn with_number(v: Known, minus: bool, whole: u16, fraction: u32, place: usize) -> Known
-    ensures { result ≡ with_number v minus whole fraction place }
-{
-    let pen = v.pen;
-    Known {
-        pen: pen,
-        minus: minus,
-        whole: whole,
-        fraction: fraction,
-        place: place,
-    }
-}
-
-fn with_whole(v: Known, whole: u16) -> Known
-    ensures { result ≡ with_whole v whole }
-{
-    with_number(v, v.minus, whole, v.fraction, v.place)
-}
-
-fn with_fraction(v: Known, fraction: u32) -> Known
-    ensures { result ≡ with_fraction v fraction }
-{
-    with_number(v, v.minus, v.whole, fraction, v.place)
-}
-
-pub(crate) fn with_pen(v: Known, pen: Pen) -> Known
-    ensures { result ≡ with_pen v pen }
+// A number that begins at a place.
+fn begun(v: Known, minus: bool, whole: u16, place: usize) -> Known
+    ensures { result ≡ with_number v minus whole 0 place }
 {
     Known {
-        pen: pen,
-        minus: v.minus,
-        whole: v.whole,
-        fraction: v.fraction,
-        place: v.place,
+        minus,
+        whole,
+        fraction: 0,
+        place,
+        ..v
     }
 }
 
@@ -74,11 +50,15 @@ fn digit_taken(going: Going, b: u8, place: usize, v: Known) -> Known
     ensures { result ≡ digit_taken going b place v }
 {
     match going {
-        Going::Fresh => with_number(v, false, whole_digit(0, b), 0, place),
-        Going::Opened => with_whole(v, whole_digit(v.whole, b)),
-        Going::InWhole => with_whole(v, whole_digit(v.whole, b)),
-        Going::AtPoint => with_fraction(v, fraction_digit(v.fraction, b)),
-        Going::InFraction => with_fraction(v, fraction_digit(v.fraction, b)),
+        Going::Fresh => begun(v, false, whole_digit(0, b), place),
+        Going::Opened | Going::InWhole => Known {
+            whole: whole_digit(v.whole, b),
+            ..v
+        },
+        Going::AtPoint | Going::InFraction => Known {
+            fraction: fraction_digit(v.fraction, b),
+            ..v
+        },
     }
 }
 
@@ -87,11 +67,8 @@ fn dot_taken(going: Going, place: usize, v: Known) -> Known
     ensures { result ≡ dot_taken going place v }
 {
     match going {
-        Going::Fresh => with_number(v, false, 0, 0, place),
-        Going::Opened => v,
-        Going::InWhole => v,
-        Going::AtPoint => v,
-        Going::InFraction => with_number(v, false, 0, 0, place),
+        Going::Fresh | Going::InFraction => begun(v, false, 0, place),
+        _ => v,
     }
 }
 
@@ -101,15 +78,13 @@ pub(crate) fn taken(going: Going, b: u8, k: Class, place: usize, v: Known) -> Kn
     ensures { result ≡ taken_of going b k place v }
 {
     match k {
-        Class::Blank => v,
-        Class::Comma => v,
-        Class::Sign => with_number(v, b == b'-', 0, 0, place),
+        Class::Sign => begun(v, b == b'-', 0, place),
         Class::Digit => digit_taken(going, b, place, v),
         Class::Dot => dot_taken(going, place, v),
-        Class::Command(l) => {
-            let pen = v.pen;
-            with_pen(v, lettered(pen, l, b))
-        }
-        Class::Other => v,
+        Class::Command(l) => Known {
+            pen: lettered(v.pen, l, b),
+            ..v
+        },
+        _ => v,
     }
 }

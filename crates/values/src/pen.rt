@@ -1,6 +1,6 @@
 // What the letters and numbers of a path text come to: the current point, and how the next number is taken.
-ghost use Rattle.std.specs.Prelude.{◌≡◌, cond};
-ghost use Rattle.values.specs.Pen.{upright, is_lower, aims_y, coord_of, is_outside, is_large, placed_of, with_letter, home_of, lettered_of, resting_pen};
+ghost use Rattle.std.specs.Prelude.{◌≡◌};
+ghost use Rattle.values.specs.Pen.{upright, is_lower, aims_y, coord_of, is_outside, is_large, placed_of, with_letter, lettered_of, resting_pen};
 
 use decimals::digits::is_beyond;
 use form::classes::Letter;
@@ -36,18 +36,6 @@ pub(crate) fn resting() -> Pen
     }
 }
 
-fn pick(t: bool, a: f32, b: f32) -> f32
-    ensures { result ≡ cond t a b }
-{
-    if t { a } else { b }
-}
-
-fn choose(t: bool, a: bool, b: bool) -> bool
-    ensures { result ≡ cond t a b }
-{
-    if t { a } else { b }
-}
-
 // Whether a number of an axis is a y.
 fn aims_y(a: Axis, upright: bool) -> bool
     ensures { result ≡ aims_y a upright }
@@ -63,8 +51,8 @@ fn aims_y(a: Axis, upright: bool) -> bool
 fn coord(p: Pen, a: Axis, c: f32) -> f32
     ensures { result ≡ coord_of p a c }
 {
-    let base = pick(aims_y(a, p.upright), p.y, p.x);
-    pick(p.relative, base + c, c)
+    let base = if aims_y(a, p.upright) { p.y } else { p.x };
+    if p.relative { base + c } else { c }
 }
 
 // Whether that is beyond the limit.
@@ -85,20 +73,27 @@ pub(crate) fn is_large(n: u64, p: Pen, a: Axis, c: f32) -> bool
 pub(crate) fn placed(p: Pen, a: Axis, c: f32) -> Pen
     ensures { result ≡ placed_of p a c }
 {
-    let t = aims_y(a, p.upright);
     let v = coord(p, a, c);
-    let x = pick(t, p.x, v);
-    let y = pick(t, v, p.y);
-    let e = ends_point(a);
-    let first = choose(e, p.fresh, false);
+    let (x, y) = if aims_y(a, p.upright) {
+        (p.x, v)
+    } else {
+        (v, p.y)
+    };
+    if !ends_point(a) {
+        return Pen { x, y, ..p };
+    }
+    let (first_x, first_y) = if p.fresh {
+        (x, y)
+    } else {
+        (p.first_x, p.first_y)
+    };
     Pen {
-        fresh: choose(e, false, p.fresh),
-        relative: p.relative,
-        upright: p.upright,
-        x: x,
-        y: y,
-        first_x: pick(first, x, p.first_x),
-        first_y: pick(first, y, p.first_y),
+        fresh: false,
+        x,
+        y,
+        first_x,
+        first_y,
+        ..p
     }
 }
 
@@ -106,7 +101,7 @@ pub(crate) fn placed(p: Pen, a: Axis, c: f32) -> Pen
 fn is_lower(b: u8) -> bool
     ensures { result ≡ is_lower b }
 {
-    97 <= b
+    b'a' <= b
 }
 
 fn is_upright(b: u8) -> bool
@@ -119,39 +114,24 @@ fn with_letter(p: Pen, fresh: bool, b: u8) -> Pen
     ensures { result ≡ with_letter p fresh b }
 {
     Pen {
-        fresh: fresh,
+        fresh,
         relative: is_lower(b),
         upright: is_upright(b),
-        x: p.x,
-        y: p.y,
-        first_x: p.first_x,
-        first_y: p.first_y,
+        ..p
     }
 }
 
-// Behind a Z the current point is the run's first.
-fn home(p: Pen) -> Pen
-    ensures { result ≡ home_of p }
-{
-    Pen {
-        fresh: p.fresh,
-        relative: p.relative,
-        upright: p.upright,
-        x: p.first_x,
-        y: p.first_y,
-        first_x: p.first_x,
-        first_y: p.first_y,
-    }
-}
-
-// After a letter.
+// After a letter. Behind a Z the current point is the run's first.
 pub(crate) fn lettered(p: Pen, l: Letter, b: u8) -> Pen
     ensures { result ≡ lettered_of p l b }
 {
     match l {
         Letter::Move => with_letter(p, true, b),
-        Letter::Line => with_letter(p, false, b),
-        Letter::Along => with_letter(p, false, b),
-        Letter::Close => home(p),
+        Letter::Line | Letter::Along => with_letter(p, false, b),
+        Letter::Close => Pen {
+            x: p.first_x,
+            y: p.first_y,
+            ..p
+        },
     }
 }

@@ -1,9 +1,9 @@
 // The reading of a path text as a state by value and a step over its bytes.
 ghost use Rattle.std.specs.Prelude.{◌≡◌};
-ghost use Rattle.values.specs.State.{started, settle_of, settle_if, took_of};
+ghost use Rattle.values.specs.State.{started, settle_of, took_of};
 
 use crate::events::{Event, letter, number_at};
-use crate::known::{Known, nothing_known, taken, with_pen};
+use crate::known::{Known, nothing_known, taken};
 use crate::pen::{is_large, placed};
 use decimals::digits::millionths;
 use decimals::nearest;
@@ -18,21 +18,21 @@ pub struct State {
 }
 
 // What a byte calls for, in this order: by the number that ends there, by the letter. The end of the text calls for what an M would.
-#[derive(Drop)]
+#[derive(Clone, Copy)]
 pub struct Called {
     pub number: Event,
     pub letter: Event,
 }
 
 // The state behind a byte, and what that calls for.
-#[derive(Drop)]
+#[derive(Clone, Copy)]
 pub struct Took {
     pub state: State,
     pub called: Called,
 }
 
 // A number that has ended: what is known then, and what it calls for.
-#[derive(Drop)]
+#[derive(Clone, Copy)]
 pub struct Settled {
     pub known: Known,
     pub event: Event,
@@ -53,26 +53,12 @@ fn settle(m: Mode, v: Known, end: usize) -> Settled
     ensures { result ≡ settle_of m v end }
 {
     let a = m.axis;
-    let before = v.pen;
     let n = millionths(v.whole, v.fraction, m.places);
     let c = nearest(v.minus, n);
-    let now = placed(before, a, c);
+    let pen = placed(v.pen, a, c);
     Settled {
-        known: with_pen(v, now),
-        event: number_at(is_large(n, before, a, c), v.place, before, now, a, end),
-    }
-}
-
-fn settle_if(ended: bool, m: Mode, v: Known, end: usize) -> Settled
-    ensures { result ≡ settle_if ended m v end }
-{
-    if ended {
-        settle(m, v, end)
-    } else {
-        Settled {
-            known: v,
-            event: Event::Nothing,
-        }
+        known: Known { pen, ..v },
+        event: number_at(is_large(n, v.pen, a, c), v.place, v.pen, pen, a, end),
     }
 }
 
@@ -82,24 +68,26 @@ pub fn take(s: State, b: u8, place: usize, behind: usize) -> Took
     ensures { result ≡ took_of s b place behind }
 {
     let m = s.mode;
-    let g = m.stage;
-    let a = m.axis;
-    let v = s.known;
-    let pen = v.pen;
     let k = class_of(b);
-    let going = row_of(g).going;
+    let going = row_of(m.stage).going;
     let ended = ends_before(going, k);
-    let t = settle_if(ended, m, v, place);
-    let now = t.known;
-    let number = t.event;
+    let t = if ended {
+        settle(m, s.known, place)
+    } else {
+        Settled {
+            known: s.known,
+            event: Event::Nothing,
+        }
+    };
+    let inside = is_inside(m.stage, axis_at(ended, m.axis));
     Took {
         state: State {
             mode: next(m, k),
-            known: taken(going, b, k, place, now),
+            known: taken(going, b, k, place, t.known),
         },
         called: Called {
-            number: number,
-            letter: letter(is_inside(g, axis_at(ended, a)), pen, k, behind),
+            number: t.event,
+            letter: letter(inside, s.known.pen, k, behind),
         },
     }
 }

@@ -1,6 +1,6 @@
 -- `decimals::nearest` meets its contract. Assumes nothing.
 use Rattle.root.proofs.Patterns.{no_nan_bits}
-use Rattle.decimals.proofs.Millionths.{nothing, plus, minus}
+use Rattle.decimals.proofs.Millionths.{nothing, minus}
 use Rattle.decimals.proofs.nearest.Goals as goal
 
 pub returns-then-millionths-eq0 : goal.returns-then-millionths-eq0
@@ -11,6 +11,3 @@ float_from_bits-x c = no_nan_bits _ c.pattern-x.ensures.finite
 
 pub returns-then-minus : goal.returns-then-minus
 returns-then-minus c = minus _ _ _ c.if-minus.true c.if-millionths-eq0.false c.pattern-x.ensures
-
-pub returns : goal.returns
-returns c = plus _ _ _ c.if-minus.false c.pattern-x.ensures
