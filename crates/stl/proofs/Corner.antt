@@ -6,10 +6,10 @@ use native.Mathlib.Omega.{arith}
 use borrow.Author.Tests.{eqb-true, eqb-false, ne_eqb, eq-eqb}
 use lib.Count.{count_trailing_zeros, under}
 use lib.Dec.{T, leb, eqb, eqb-suc-zero}
-use lib.Ieee.{Float, nan, inf, fin, binary32, fits, odd, of_fields, of_bits, to_bits, is_nan, nan_bits, ne}
-use lib.Ieee.Bits.{of_bits-to_bits, nan_bits_is}
-use lib.Ieee.Compare.{differs_from_itself, nan_differs}
+use lib.Ieee.{Float, nan, inf, fin, binary32, odd, of_fields, of_bits, is_nan, nan_bits}
+use lib.Ieee.Bits.{nan_bits_is}
 use lib.Pow.{shr-shr}
+use Rattle.std.specs.Float.{float_is_finite}
 use Rattle.plane.specs.declared.vector.Point.{Point}
 use Rattle.stl.specs.Corner.{finite, is_zero, finite_corner}
 
@@ -97,16 +97,9 @@ corner_no_nan p h = let f = corner_finite p h in (finite_no_nan p.x f.0, finite_
 pub pattern_no_nan : (b : ℕ) → T (finite (of_bits binary32 b)) → T (not (nan_bits binary32 b))
 pattern_no_nan b h = subst (λ (t : Bool). T (not t)) (sym (nan_bits_is binary32 b)) (finite_no_nan (of_bits binary32 b) h)
 
--- ---- `x != x` tells a NaN
-pub nan_not_finite : (x : Float) → ne x x ≡ true → false ≡ finite x
-unfolding finite
-nan_not_finite x e = sym (ap (λ (y : Float). finite y) (differs_from_itself x (subst T (sym e) tt)))
-
-pub no_nan : (x : Float) → ne x x ≡ false → T (not (is_nan x))
-unfolding is_nan
-no_nan nan e = absurd (subst T (sym nan_differs ∙ e) tt)
-no_nan (inf s) h = tt
-no_nan (fin s m e) h = tt
-
-pub finite_bits : (x : Float) → T (fits binary32 x) → (r : Bool) → r ≡ finite (of_bits binary32 (to_bits binary32 x)) → r ≡ finite x
-finite_bits x f r e = e ∙ ap (λ (y : Float). finite y) (of_bits-to_bits binary32 x f)
+-- ---- std's test of a float
+pub finite_same : (x : Float) → float_is_finite x ≡ finite x
+unfolding finite float_is_finite
+finite_same nan = refl
+finite_same (inf s) = refl
+finite_same (fin s m e) = refl

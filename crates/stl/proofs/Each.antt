@@ -1,7 +1,7 @@
 -- Laws of `first_bad`, and of a row whose elements are spelt by m values each and written one behind the other. Assumes nothing.
 use Prim.Native.Nat.{ℕ, zero, suc, ◌+◌, ◌-◌, ◌*◌, ◌≤◌, ◌<◌}
 use mathlib.Core.Path.{◌≡◌, refl, sym, ap, ◌∙◌, subst}
-use mathlib.Core.Bool.{Bool, true, false, cond}
+use mathlib.Core.Bool.{Bool, true, false, not, cond}
 use mathlib.Core.List.{List, ◌++◌}
 use mathlib.Core.Logic.{◌⊎◌, inl, inr}
 use native.Mathlib.Nat.{eq-or-lt_of_le, mul-le-mul_left}
@@ -10,6 +10,8 @@ use borrow.Rule.Slice.PartMut.{mid_of, put_mid, same_len_mid}
 use lib.Dec.{T}
 use lib.Ieee.Bits.{is_true}
 use lib.ListN.{length, take, drop, take-append-drop}
+use Rattle.std.specs.Prelude.{Option, Some, MatchOption, find}
+use Rattle.std.specs.List.{range_with_len}
 use Rattle.lists.specs.Over.{over, flat}
 use Rattle.lists.proofs.Laws.{over_none}
 use Rattle.lists.proofs.Parts.{turn}
@@ -17,21 +19,22 @@ use Rattle.stl.specs.Each.{each, first_bad}
 
 -- ---- the first that is not fine
 module _ (fine : ℕ → Bool) where
-  -- one that is fine is passed, one that is not is the answer
-  pub first_pass : (i n : ℕ) → i < n → fine i ≡ true → first_bad fine i (n - i) ≡ first_bad fine (i + 1) (n - (i + 1))
+  -- std's search of the numbers below n for one that is not fine
+  where_from : (i n : ℕ) (r : Option ℕ) → r ≡ find (λ k. not (fine k)) (range_with_len i n) → MatchOption r (i + n ≡ first_bad fine i n) (λ k. (k ≡ first_bad fine i n) × (k < i + n))
   unfolding first_bad
-  first_pass i n h e = let m : n - i ≡ suc (n - (i + 1)) = omega arith in rw (m, e)
+  where_from i zero r e = rw e (omega arith)
+  where_from i (suc n) r e = go (fine i) e (where_from (i + 1) n r)
+    where
+      Ends : ℕ → ℕ → Type 0
+      Ends b m = MatchOption r (m ≡ b) (λ k. (k ≡ b) × (k < m))
 
-  pub first_stop : (i n : ℕ) → i < n → fine i ≡ false → first_bad fine i (n - i) ≡ i
-  unfolding first_bad
-  first_stop i n h e = let m : n - i ≡ suc (n - (i + 1)) = omega arith in rw (m, e)
+      go : (b : Bool) → r ≡ cond (not b) (Some i) (find (λ k. not (fine k)) (range_with_len (i + 1) n)) → (r ≡ find (λ k. not (fine k)) (range_with_len (i + 1) n) → Ends (first_bad fine (i + 1) n) (i + 1 + n))
+          → Ends (cond b (first_bad fine (i + 1) n) i) (i + suc n)
+      go true e later = let m : i + 1 + n ≡ i + suc n = omega arith in rw m at (later e)
+      go false e later = rw e (refl, omega arith)
 
-  pub first_start : (n : ℕ) → first_bad fine 0 n ≡ first_bad fine 0 (n - 0)
-  first_start n = let e : n ≡ n - 0 = omega arith in ap (λ (j : ℕ). first_bad fine 0 j) e
-
-  pub first_done : (n k : ℕ) → first_bad fine 0 n ≡ first_bad fine k (n - k) → k ≤ n → n ≤ k → k ≡ first_bad fine 0 n
-  unfolding first_bad
-  first_done n k e h l = let z : n - k ≡ 0 = omega arith in sym (e ∙ ap (λ (j : ℕ). first_bad fine k j) z)
+  pub first_where : (n : ℕ) (r : Option ℕ) → r ≡ find (λ k. not (fine k)) (range_with_len 0 n) → MatchOption r (n ≡ first_bad fine 0 n) (λ k. (k ≡ first_bad fine 0 n) × (k < n))
+  first_where n r e = let z : 0 + n ≡ n = omega arith in rw z at (where_from 0 n r e)
 
   -- none is passed over: where the answer is the end, all are fine
   fine_from : (i n : ℕ) → i + n ≤ first_bad fine i n → (k : ℕ) → i ≤ k → k < i + n → T (fine k)
@@ -71,47 +74,42 @@ module _ {A : Type 0} (f : ℕ → A) where
   length_each i zero = refl
   length_each i (suc n) = ap suc (length_each (i + 1) n)
 
--- k of n elements are written over x0, each spelt by m values, and `at` stands behind them: what was to come is still to come
-pub record Row {A B : Type 0} (f : ℕ → A) (spell : A → List B) (m n : ℕ) (x0 x : List B) (k at : ℕ) : Type 0 where
-  pub within : k ≤ n
-  pub place : at ≡ m * k
+-- k of n elements are written over x0, each spelt by m values: what was to come is still to come
+pub record Row {A B : Type 0} (f : ℕ → A) (spell : A → List B) (m n : ℕ) (x0 x : List B) (k : ℕ) : Type 0 where
   pub same : length x ≡ length x0
-  pub content : over (flat spell (each f 0 n)) x0 ≡ take at x ++ over (flat spell (each f k (n - k))) (drop at x)
+  pub content : over (flat spell (each f 0 n)) x0 ≡ take (m * k) x ++ over (flat spell (each f k (n - k))) (drop (m * k) x)
 
 module _ {A B : Type 0} (f : ℕ → A) (spell : A → List B) (m n : ℕ) (x0 : List B) (room : m * n ≤ length x0) where
-  pub row_none : Row f spell m n x0 x0 0 0
-  row_none = let e : n ≡ n - 0 = omega arith in record { within = omega arith; place = omega arith; same = refl; content = ap (λ (j : ℕ). over (flat spell (each f 0 j)) x0) e }
+  pub row_none : Row f spell m n x0 x0 0
+  row_none = let e : n ≡ n - 0 = omega arith in let z : m * 0 ≡ 0 = omega arith in record { same = refl; content = rw z (ap (λ (j : ℕ). over (flat spell (each f 0 j)) x0) e) }
 
   ahead : (k : ℕ) → k < n → flat spell (each f k (n - k)) ≡ spell (f k) ++ flat spell (each f (k + 1) (n - (k + 1)))
   unfolding each flat
   ahead k h = let e : n - k ≡ suc (n - (k + 1)) = omega arith in rw e
 
-  module _ (x : List B) (k at : ℕ) (w : Row f spell m n x0 x k at) where
-    pub row_room : k < n → at + m ≤ length x
+  module _ (x : List B) (k : ℕ) (w : Row f spell m n x0 x k) where
+    pub row_room : k < n → m * k + m ≤ length x
     row_room h =
-        let a = w.place in
         let b = w.same in
         let d = mul-le-mul_left m h in
         omega arith
 
-    pub row_turn : k < n → length (spell (f k)) ≡ m → (ys : List B) → length ys ≡ length (mid_of at (length x - at) x) → ys ≡ over (spell (f k)) (mid_of at (length x - at) x)
-        → Row f spell m n x0 (put_mid at (length x - at) x ys) (k + 1) (at + m)
+    pub row_turn : k < n → length (spell (f k)) ≡ m → (ys : List B) → length ys ≡ length (mid_of (m * k) (length x - m * k) x) → ys ≡ over (spell (f k)) (mid_of (m * k) (length x - m * k) x)
+        → Row f spell m n x0 (put_mid (m * k) (length x - m * k) x ys) (k + 1)
     row_turn h l ys g y =
-        let a = w.place in
+        let e : m * (k + 1) ≡ m * k + m = omega arith in
         record {
-          within = omega arith;
-          place = omega arith;
-          same = same_len_mid at (length x - at) x ys g ∙ w.same;
+          same = same_len_mid (m * k) (length x - m * k) x ys g ∙ w.same;
           content =
-              w.content ∙ ap (λ (r : List B). take at x ++ over r (drop at x)) (ahead k h)
-              ∙ turn x ys (spell (f k)) (flat spell (each f (k + 1) (n - (k + 1)))) at m l (row_room h) y;
+              rw e
+              (w.content ∙ ap (λ (r : List B). take (m * k) x ++ over r (drop (m * k) x)) (ahead k h)
+              ∙ turn x ys (spell (f k)) (flat spell (each f (k + 1) (n - (k + 1)))) (m * k) m l (row_room h) y);
         }
 
     pub row_done : n ≤ k → x ≡ over (flat spell (each f 0 n)) x0
     unfolding each flat
     row_done h =
-        let a = w.within in
         let e : n - k ≡ 0 = omega arith in
         sym
-        (w.content ∙ ap (λ (j : ℕ). take at x ++ over (flat spell (each f k j)) (drop at x)) e ∙ ap (λ (z : List B). take at x ++ z) (over_none (drop at x))
-        ∙ take-append-drop at x)
+        (w.content ∙ ap (λ (j : ℕ). take (m * k) x ++ over (flat spell (each f k j)) (drop (m * k) x)) e ∙ ap (λ (z : List B). take (m * k) x ++ z) (over_none (drop (m * k) x))
+        ∙ take-append-drop (m * k) x)

@@ -1,7 +1,7 @@
 // A triangle by its three corners, as the file has it.
 use plane::vector::Point;
 
-#[derive(Drop)]
+#[derive(Clone, Copy)]
 pub struct Facet {
     pub a: Point,
     pub b: Point,

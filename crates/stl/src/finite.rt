@@ -17,12 +17,3 @@ pub fn is_zero_pattern(bits: u32) -> bool
 {
     bits % 2147483648 == 0
 }
-
-pub fn is_finite(x: f32) -> bool
-    ensures { result ≡ finite x }
-{
-    if x != x {
-        return false;
-    }
-    is_finite_pattern(f32::to_bits(x))
-}

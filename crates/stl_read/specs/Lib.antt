@@ -1,3 +1,2 @@
--- `Answer` is what each case of the answer stands for; `Fine` what the private writer is lent.
-pub mod Answer
+-- `Fine` has what the private writer is lent.
 pub mod Fine

@@ -1,4 +1,3 @@
--- `Zeros` has laws of zero bytes written one by one, `Parts` how long the parts of a file are, `Fine` what a fine triangle has.
+-- `Parts` has how long the parts of a file are, `Fine` what a fine triangle has.
 pub mod Fine
 pub mod Parts
-pub mod Zeros

@@ -1,3 +1,2 @@
--- `Answer` is what each case of the answer stands for; `Fine` what the private writers are lent.
-pub mod Answer
+-- `Fine` has what the private writers are lent.
 pub mod Fine

@@ -1,18 +1,12 @@
 // The mesh's triangles by their corners, and which may be written.
-ghost use Rattle.std.specs.Prelude.{◌≡◌, ◌/◌, ◌<◌, T, length};
+ghost use Rattle.std.specs.Prelude.{not, ◌≡◌, ◌/◌, ◌<◌, T, find, length};
+ghost use Rattle.std.specs.List.{range_with_len};
 ghost use Rattle.stl.specs.Corner.{finite_corner};
-ghost use Rattle.stl.specs.Write.{corner_of, fine_vertex, fine_triangle, facet_of, first_refused};
+ghost use Rattle.stl.specs.Write.{corner_of, fine_vertex, fine_triangle, facet_of};
 
 use pieces::Index;
 use plane::vector::Point;
 use stl::facet::Facet;
-use stl::finite::is_finite;
-
-fn wide(i: Index) -> usize
-    ensures { result ≡ i }
-{
-    i as usize
-}
 
 fn corner_of(vertices: &[f32], i: usize) -> Point
     requires { i < length vertices.now / 5 }
@@ -24,45 +18,35 @@ fn corner_of(vertices: &[f32], i: usize) -> Point
     }
 }
 
+#[tactic(auto, using(stl::proofs::Corner::finite_same), unfolding(stl::specs::Corner::finite_corner))]
 fn is_finite_corner(p: Point) -> bool
     ensures { result ≡ finite_corner p }
 {
-    is_finite(p.x) & is_finite(p.y)
+    p.x.is_finite() && p.y.is_finite()
 }
 
+#[tactic(auto, unfolding(stl::specs::Write::fine_vertex))]
 fn is_fine_vertex(vertices: &[f32], i: usize) -> bool
     ensures { result ≡ fine_vertex vertices.now i }
 {
-    if i < vertices.len() / 5 {
-        return is_finite_corner(corner_of(vertices, i));
-    }
-    false
+    i < vertices.len() / 5 && is_finite_corner(corner_of(vertices, i))
 }
 
+#[tactic(auto, unfolding(stl::specs::Write::fine_triangle))]
 fn is_fine_triangle(vertices: &[f32], triangles: &[Index], k: usize) -> bool
     requires { k < length triangles.now / 3 }
     ensures { result ≡ fine_triangle vertices.now triangles.now k }
 {
-    let i = wide(triangles[3 * k]);
-    let j = wide(triangles[3 * k + 1]);
-    let l = wide(triangles[3 * k + 2]);
-    is_fine_vertex(vertices, i) & is_fine_vertex(vertices, j) & is_fine_vertex(vertices, l)
+    is_fine_vertex(vertices, triangles[3 * k] as usize)
+        && is_fine_vertex(vertices, triangles[3 * k + 1] as usize)
+        && is_fine_vertex(vertices, triangles[3 * k + 2] as usize)
 }
 
-// The first triangle that is not fine, or how many there are.
-pub(crate) fn first_refused(vertices: &[f32], triangles: &[Index]) -> usize
-    ensures { result ≡ first_refused vertices.now triangles.now }
+// The first triangle that is not fine.
+pub(crate) fn first_refused(vertices: &[f32], triangles: &[Index]) -> Option<usize>
+    ensures { result ≡ find (λ k. not (fine_triangle vertices.now triangles.now k)) (range_with_len 0 (length triangles.now / 3)) }
 {
-    let n = triangles.len() / 3;
-    let mut k: usize = 0;
-    while k < n {
-        if is_fine_triangle(vertices, triangles, k) {
-            k += 1;
-        } else {
-            return k;
-        }
-    }
-    k
+    (0..triangles.len() / 3).find(|k| !is_fine_triangle(vertices, triangles, *k))
 }
 
 // A triangle that is fine.
@@ -70,8 +54,9 @@ pub(crate) fn facet_of(vertices: &[f32], triangles: &[Index], k: usize) -> Facet
     requires { (k < length triangles.now / 3) × T (fine_triangle vertices.now triangles.now k) }
     ensures { result ≡ facet_of vertices.now triangles.now k }
 {
-    let a = corner_of(vertices, wide(triangles[3 * k]));
-    let b = corner_of(vertices, wide(triangles[3 * k + 1]));
-    let c = corner_of(vertices, wide(triangles[3 * k + 2]));
-    Facet { a: a, b: b, c: c }
+    Facet {
+        a: corner_of(vertices, triangles[3 * k] as usize),
+        b: corner_of(vertices, triangles[3 * k + 1] as usize),
+        c: corner_of(vertices, triangles[3 * k + 2] as usize),
+    }
 }

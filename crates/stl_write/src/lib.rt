@@ -1,21 +1,20 @@
 // Writing binary STL: a mesh into a lent byte list, or one refusal.
 #![tactic(auto)]
 
-pub mod answer;
 mod corners;
 mod put;
 
 ghost use Rattle.std.specs.Prelude.{◌≡◌, ◌*◌, ◌/◌, ◌≤◌, length};
 ghost use Rattle.lists.specs.Over.{over, flat};
+ghost use Rattle.stl.specs.Answer.{written_answer_of};
 ghost use Rattle.stl.specs.File.{facet_bytes, file_bytes};
 ghost use Rattle.stl.specs.Write.{facets_of, too_short, write_of};
-ghost use Rattle.stl_write.specs.Answer.{written_answer_of};
 ghost use Rattle.stl_write.specs.Fine.{AllFine, PutsFile};
 
-use crate::answer::Written;
 use crate::corners::{facet_of, first_refused};
 use crate::put::{put_facet, put_head};
 use pieces::Index;
+use stl::answer::WriteError;
 
 // The most triangles that the file's u32 counts.
 const COUNT_LIMIT: usize = 4294967295;
@@ -24,10 +23,7 @@ const COUNT_LIMIT: usize = 4294967295;
 fn is_too_short(n: usize, room: usize) -> bool
     ensures { result ≡ too_short n room }
 {
-    if COUNT_LIMIT < n {
-        return true;
-    }
-    room < 84 + 50 * n
+    COUNT_LIMIT < n || room < 84 + 50 * n
 }
 
 fn put_facets(bytes: &mut [u8], vertices: &[f32], triangles: &[Index])
@@ -35,13 +31,8 @@ fn put_facets(bytes: &mut [u8], vertices: &[f32], triangles: &[Index])
     requires all_fine { AllFine vertices.now triangles.now }
     ensures { bytes.new ≡ over (flat facet_bytes (facets_of vertices.now triangles.now)) bytes.old }
 {
-    let n = triangles.len() / 3;
-    let mut k: usize = 0;
-    let mut at: usize = 0;
-    while k < n {
-        put_facet(&mut bytes[at..], facet_of(vertices, triangles, k));
-        at += 50;
-        k += 1;
+    for k in 0..triangles.len() / 3 {
+        put_facet(&mut bytes[50 * k..], facet_of(vertices, triangles, k));
     }
 }
 
@@ -54,17 +45,20 @@ fn put_file(bytes: &mut [u8], vertices: &[f32], triangles: &[Index])
 }
 
 // Writes a mesh, five floats to a vertex and three numbers to a triangle, as a file at the start of `bytes`. A refusal changes nothing.
-pub fn stl_write(vertices: &[f32], triangles: &[Index], bytes: &mut [u8]) -> Written
+pub fn stl_write(
+    vertices: &[f32],
+    triangles: &[Index],
+    bytes: &mut [u8],
+) -> Result<usize, WriteError>
     ensures { record { answer = written_answer_of result; bytes = bytes.new } ≡ write_of vertices.now triangles.now bytes.old }
 {
     let n = triangles.len() / 3;
     if is_too_short(n, bytes.len()) {
-        return Written::FileRoom;
+        return Err(WriteError::FileRoom);
     }
-    let k = first_refused(vertices, triangles);
-    if k < n {
-        return Written::Corner(k);
+    if let Some(k) = first_refused(vertices, triangles) {
+        return Err(WriteError::Corner(k));
     }
     put_file(bytes, vertices, triangles);
-    Written::File(84 + 50 * n)
+    Ok(84 + 50 * n)
 }

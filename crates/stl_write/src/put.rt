@@ -13,11 +13,7 @@ fn put_zeros(bytes: &mut [u8], n: usize)
     requires { n ≤ length bytes.old }
     ensures { bytes.new ≡ over (zeros n) bytes.old }
 {
-    let mut i: usize = 0;
-    while i < n {
-        bytes[i] = 0;
-        i += 1;
-    }
+    bytes[..n].fill(0);
 }
 
 // The lowest byte first.
@@ -25,10 +21,7 @@ fn put_word(bytes: &mut [u8], n: u32)
     requires { 4 ≤ length bytes.old }
     ensures { bytes.new ≡ over (le32 n) bytes.old }
 {
-    bytes[0] = (n % 256) as u8;
-    bytes[1] = (n / 256 % 256) as u8;
-    bytes[2] = (n / 65536 % 256) as u8;
-    bytes[3] = (n / 16777216 % 256) as u8;
+    bytes[..4].copy_from_slice(&n.to_le_bytes());
 }
 
 // x, y, and a z of zero bytes.
@@ -36,8 +29,8 @@ fn put_corner(bytes: &mut [u8], p: Point)
     requires { (12 ≤ length bytes.old) × T (finite_corner p) }
     ensures { bytes.new ≡ over (corner_bytes p) bytes.old }
 {
-    put_word(bytes, f32::to_bits(p.x));
-    put_word(&mut bytes[4..], f32::to_bits(p.y));
+    put_word(bytes, p.x.to_bits());
+    put_word(&mut bytes[4..], p.y.to_bits());
     put_zeros(&mut bytes[8..], 4);
 }
 

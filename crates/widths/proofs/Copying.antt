@@ -1,59 +1,47 @@
 -- Numbers copied one by one, and the first that is too large to be. Assumes nothing.
-use Prim.Native.Nat.{ℕ, zero, suc, ◌+◌, ◌≤◌, ◌<◌}
+use Prim.Native.Nat.{ℕ, suc, ◌+◌, ◌≤◌, ◌<◌}
 use mathlib.Core.Path.{◌≡◌, refl, sym, ap, ◌∙◌}
 use mathlib.Core.Bool.{Bool, true, false, cond}
-use mathlib.Core.List.{List, [], ◌∷◌}
+use mathlib.Core.List.{List, [], ◌∷◌, ◌++◌, map}
 use native.Mathlib.Numerals.{add-one}
 use native.Mathlib.Omega.{arith}
-use borrow.Author.Tests.{lt-ltb, le-ltb, ltb-false}
+use borrow.Author.Tests.{le-ltb, ltb-true, ltb-false}
 use lib.Dec.{ltb}
-use lib.ListN.{length, take, drop, get_or, set, drop_of_length-le}
-use lib.Seq.{length-take-le, take-suc, take_all, drop-cons}
+use lib.ListN.{length, take, get_or, set}
+use lib.Seq.{length-take-le, take-suc}
+use Rattle.std.specs.Prelude.{Option, Some, None, MatchOption, position}
+use Rattle.std.specs.List.{position_or_len}
+use Rattle.std.proofs.lemmas.List.Recursion.{is_position_or_len}
 use Rattle.lists.specs.Over.{over}
-use Rattle.lists.proofs.Laws.{over_next, length_over}
+use Rattle.lists.proofs.Laws.{over_next}
 use Rattle.widths.specs.Back.{AreNarrow}
 use Rattle.widths.specs.Widths.{narrow_most, first_wide}
 
--- ---- of xs, i are written over ys
-module _ (xs ys v : List ℕ) (i : ℕ) (e : v ≡ over (take i xs) ys) (h : length xs ≤ length ys) where
-  pub copy_same : length v ≡ length ys
-  copy_same = ap length e ∙ length_over (take i xs) ys
+-- ---- of xs, i are written over ys: one more
+pub over_more : {A : Type 0} (xs ys : List A) (i : ℕ) (x : A) → i < length xs → length xs ≤ length ys → get_or xs i x ≡ x → set (over (take i xs) ys) i x ≡ over (take (i + 1) xs) ys
+over_more {A} xs ys i x l h e =
+    let s : length (take i xs) ≡ i = length-take-le i xs (omega arith) in
+    let r : length (take i xs) < length ys = omega arith in
+    ap (λ (k : ℕ). set (over (take i xs) ys) k x) (sym s)
+    ∙ over_next (take i xs) x ys r
+    ∙ ap (λ (w : List A). over w ys) (ap (λ (y : A). take i xs ++ (y ∷ [])) (sym e) ∙ sym (take-suc xs i x l) ∙ ap (λ (k : ℕ). take k xs) (sym (add-one i)))
 
-  pub copy_next : i < length xs → set v i (get_or xs i 0) ≡ over (take (i + 1) xs) ys
-  copy_next l =
-      let s : length (take i xs) ≡ i = length-take-le i xs (omega arith) in
-      let r : length (take i xs) < length ys = omega arith in
-      ap (λ (w : List ℕ). set w i (get_or xs i 0)) e
-      ∙ ap (λ (k : ℕ). set (over (take i xs) ys) k (get_or xs i 0)) (sym s)
-      ∙ over_next (take i xs) (get_or xs i 0) ys r
-      ∙ ap (λ (w : List ℕ). over w ys) (sym (take-suc xs i 0 l) ∙ ap (λ (k : ℕ). take k xs) (sym (add-one i)))
+pub map_same : (xs : List ℕ) → map (λ x. x) xs ≡ xs
+map_same [] = refl
+map_same (x ∷ xs) = ap (λ (l : List ℕ). x ∷ l) (map_same xs)
 
-  pub copy_done : length xs ≤ i → v ≡ over xs ys
-  copy_done l = e ∙ ap (λ (w : List ℕ). over w ys) (take_all i xs l)
+-- ---- the first that is too large, as std finds it
+pub first_where : (xs : List ℕ) (r : Option ℕ) → r ≡ position (ltb narrow_most) xs → MatchOption r (length xs ≤ first_wide xs) (λ i. (i ≡ first_wide xs) × (i < length xs))
+unfolding first_wide
+first_where xs r e = go (ltb (first_wide xs) (length xs)) (ltb-true (first_wide xs) (length xs)) (ltb-false (first_wide xs) (length xs)) (rw (← same) at e)
+  where
+    same : first_wide xs ≡ position_or_len (ltb narrow_most) xs
+    same = is_position_or_len first_wide (ltb narrow_most) refl (λ x xs. let e : suc (first_wide xs) ≡ 1 + first_wide xs = omega arith in ap (λ (n : ℕ). cond (ltb narrow_most x) 0 n) e) xs
 
--- ---- none of the first i is too large
-pub record Passed (xs : List ℕ) (i : ℕ) : Type 0 where
-  pub place : first_wide xs ≡ i + first_wide (drop i xs)
-
-module _ (xs : List ℕ) where
-  pub passed_none : Passed xs 0
-  passed_none = record { place = omega arith }
-
-  module _ (i : ℕ) (p : Passed xs i) where
-    pub passed_all : length xs ≤ i → i ≡ first_wide xs
-    unfolding first_wide
-    passed_all l = let a : first_wide xs ≡ i + first_wide [] = rw (drop_of_length-le xs l) at p.place in omega arith
-
-    module _ (l : i < length xs) where
-      pub passed_stop : narrow_most < get_or xs i 0 → i ≡ first_wide xs
-      unfolding first_wide
-      passed_stop w = let a : first_wide xs ≡ i + 0 = rw (drop-cons xs i 0 l, lt-ltb narrow_most (get_or xs i 0) w) at p.place in omega arith
-
-      pub passed_one : get_or xs i 0 ≤ narrow_most → Passed xs (i + 1)
-      unfolding first_wide
-      passed_one w =
-          let a : first_wide xs ≡ i + suc (first_wide (drop (suc i) xs)) = rw (drop-cons xs i 0 l, le-ltb narrow_most (get_or xs i 0) w) at p.place in
-          record { place = rw (add-one i) (omega arith) }
+    go : (b : Bool) → (b ≡ true → first_wide xs < length xs) → (b ≡ false → length xs ≤ first_wide xs) → r ≡ cond b (Some (first_wide xs)) None
+        → MatchOption r (length xs ≤ first_wide xs) (λ i. (i ≡ first_wide xs) × (i < length xs))
+    go true t f e = rw e (refl, t refl)
+    go false t f e = rw e (f refl)
 
 -- ---- where none is, a u16 holds each
 pub all_narrow : (xs : List ℕ) → length xs ≤ first_wide xs → AreNarrow xs
@@ -64,11 +52,6 @@ all_narrow (x ∷ xs) h = go (ltb narrow_most x) (ltb-false narrow_most x) h (al
     go : (b : Bool) → (b ≡ false → x ≤ narrow_most) → suc (length xs) ≤ cond b 0 (suc (first_wide xs)) → (length xs ≤ first_wide xs → AreNarrow xs) → (x < 65536) × AreNarrow xs
     go true n h f = absurd (omega arith)
     go false n h f = let m = n refl in (omega arith, f (omega arith))
-
-pub narrow_at : (xs : List ℕ) → AreNarrow xs → (i : ℕ) → i < length xs → get_or xs i 0 < 65536
-narrow_at [] a i h = absurd (omega arith)
-narrow_at (x ∷ xs) a zero h = a.0
-narrow_at (x ∷ xs) a (suc i) h = narrow_at xs a.1 i (omega arith)
 
 pub none_wide : (xs : List ℕ) → AreNarrow xs → first_wide xs ≡ length xs
 unfolding first_wide

@@ -3,75 +3,58 @@
 
 pub mod answer;
 
-ghost use Rattle.std.specs.Prelude.{◌≡◌, ◌≤◌, length};
+ghost use Rattle.std.specs.Prelude.{◌≡◌, ◌≤◌, ◌<◌, All, IsNone, ltb, length, map, position};
 ghost use Rattle.lists.specs.Over.{over};
 ghost use Rattle.widths.specs.Answer.{listed_answer_of};
-ghost use Rattle.widths.specs.Widths.{first_wide, widen_of, narrow_of};
+ghost use Rattle.widths.specs.Widths.{narrow_most, widen_of, narrow_of};
 
-use crate::answer::Listed;
+use crate::answer::WidthError;
 
 // The most that a u16 holds.
 pub const NARROW_MOST: u32 = 65535;
 
-fn put_wide(wide: &mut [u32], numbers: &[u16])
-    requires { length numbers.now ≤ length wide.old }
-    ensures { wide.new ≡ over numbers.now wide.old }
+// Puts numbers over the start of `list`, each converted to what `made` says of it.
+fn put<A: Copy, B: Copy, F: Fn(A) -> B>(list: &mut [B], numbers: &[A], convert: F)
+    ghost made: { A → B }
+    requires room { length numbers.now ≤ length list.old }
+    requires convertible { All (λ x. F.pre convert x) numbers.now }
+    requires converts { (x : A) (y : B) → F.post convert x y → y ≡ made x }
+    ensures { list.new ≡ over (map made numbers.now) list.old }
 {
-    let mut i: usize = 0;
-    while i < numbers.len() {
-        wide[i] = numbers[i] as u32;
-        i += 1;
+    for (i, n) in numbers.iter().enumerate() {
+        list[i] = convert(*n);
     }
 }
 
 // Puts stored numbers over the start of `wide`. A refusal changes nothing.
-pub fn widen(numbers: &[u16], wide: &mut [u32]) -> Listed
+pub fn widen(numbers: &[u16], wide: &mut [u32]) -> Result<usize, WidthError>
     ensures { record { answer = listed_answer_of result; list = wide.new } ≡ widen_of numbers.now wide.old }
 {
     if wide.len() < numbers.len() {
-        return Listed::ListRoom;
+        return Err(WidthError::ListRoom);
     }
-    put_wide(wide, numbers);
-    Listed::Numbers(numbers.len())
+    put(wide, numbers, |n| u32::from(n));
+    Ok(numbers.len())
 }
 
-// The first number that is too large, or how many there are.
-fn first_wide(numbers: &[u32]) -> usize
-    ensures { result ≡ first_wide numbers.now }
+// The first number that is too large. Where there is none, a u16 holds each.
+fn first_wide(numbers: &[u32]) -> Option<usize>
+    ensures first { result ≡ position (ltb narrow_most) numbers.now }
+    ensures fits { IsNone result → All (λ n. n < 65536) numbers.now }
 {
-    let mut i: usize = 0;
-    while i < numbers.len() {
-        if NARROW_MOST < numbers[i] {
-            return i;
-        }
-        i += 1;
-    }
-    i
-}
-
-fn put_narrow(narrow: &mut [u16], numbers: &[u32])
-    requires numbers_in_bounds { length numbers.now ≤ length narrow.old }
-    requires numbers_len_bound { length numbers.now ≤ first_wide numbers.now }
-    ensures { narrow.new ≡ over numbers.now narrow.old }
-{
-    let mut i: usize = 0;
-    while i < numbers.len() {
-        narrow[i] = numbers[i] as u16;
-        i += 1;
-    }
+    numbers.iter().position(|n| *n > NARROW_MOST)
 }
 
 // Puts numbers over the start of `narrow`, where none is above 65,535. A refusal changes nothing.
-pub fn narrow(numbers: &[u32], narrow: &mut [u16]) -> Listed
+pub fn narrow(numbers: &[u32], narrow: &mut [u16]) -> Result<usize, WidthError>
     ensures { record { answer = listed_answer_of result; list = narrow.new } ≡ narrow_of numbers.now narrow.old }
 {
     if narrow.len() < numbers.len() {
-        return Listed::ListRoom;
+        return Err(WidthError::ListRoom);
     }
-    let i = first_wide(numbers);
-    if i < numbers.len() {
-        return Listed::WideNumber(i);
+    if let Some(i) = first_wide(numbers) {
+        return Err(WidthError::WideNumber(i));
     }
-    put_narrow(narrow, numbers);
-    Listed::Numbers(numbers.len())
+    put(narrow, numbers, |n| n as u16);
+    Ok(numbers.len())
 }

@@ -1,11 +1,7 @@
 -- `stl_read::put_all` meets its contract. Assumes nothing.
-use Prim.Native.Nat.{◌-◌}
 use Rattle.stl.specs.File.{facet_at, corners_of}
 use Rattle.stl.proofs.Each.{Row}
 use Rattle.stl_read.proofs.put_all.Given as goal
 
 abbrev pub invariant-loop-k : goal.invariant-loop-k
-invariant-loop-k l = Row (facet_at l.bytes) corners_of 6 l.n l.initial.corners l.corners l.k l.at
-
-abbrev pub decreases-loop-k : goal.decreases-loop-k
-decreases-loop-k l = l.n - l.k
+invariant-loop-k l = Row (facet_at l.bytes) corners_of 6 l.n l.initial.corners l.corners l.k

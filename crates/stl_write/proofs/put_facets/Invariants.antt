@@ -1,5 +1,5 @@
 -- `stl_write::put_facets` meets its contract. Assumes nothing.
-use Prim.Native.Nat.{◌-◌, ◌/◌}
+use Prim.Native.Nat.{◌/◌}
 use lib.ListN.{length}
 use Rattle.stl.specs.File.{facet_bytes}
 use Rattle.stl.specs.Write.{facet_of}
@@ -7,7 +7,4 @@ use Rattle.stl.proofs.Each.{Row}
 use Rattle.stl_write.proofs.put_facets.Given as goal
 
 abbrev pub invariant-loop-k : goal.invariant-loop-k
-invariant-loop-k l = Row (facet_of l.vertices l.triangles) facet_bytes 50 (length l.triangles / 3) l.initial.bytes l.bytes l.k l.at
-
-abbrev pub decreases-loop-k : goal.decreases-loop-k
-decreases-loop-k l = length l.triangles / 3 - l.k
+invariant-loop-k l = Row (facet_of l.vertices l.triangles) facet_bytes 50 (length l.triangles / 3) l.initial.bytes l.bytes l.k

@@ -1,8 +1,8 @@
 -- `stl_read::words::word` meets its contract. Assumes nothing.
-use borrow.Author.Rules.{rules}
+use native.Mathlib.Omega.{arith}
 use Rattle.stl.specs.Bytes.{word_at}
 use Rattle.stl_read.proofs.words.word.Goals as goal
 
 pub returns : goal.returns
 unfolding word_at
-returns c = search rules
+returns c = omega (arith, c.from_le_bytes.ensures)
