@@ -4,7 +4,7 @@ ghost use Rattle.std.specs.Option.{ForSome};
 ghost use Rattle.lines.specs.Bytes.{bytes_in, bytes_at};
 ghost use Rattle.lines.specs.Floats.{float_at};
 ghost use Rattle.lines.specs.Numbers.{number_at, number_up_to};
-ghost use Rattle.lines.specs.Words.{word_at, rest_at, behind, is_end, Found};
+ghost use Rattle.lines.specs.Words.{word_at, rest_at, is_end, Found};
 ghost use Rattle.lists.specs.Over.{over};
 
 use crate::{byte_lists, floats, numbers};
@@ -23,6 +23,8 @@ pub struct Words<'a> {
 }
 
 impl<'a> Words<'a> {
+    ghost use Rattle.lines.specs.Asked.{Asked};
+
     // All words of a line.
     pub fn of(line: &'a [u8]) -> Words<'a>
         ensures line { result.line.now ≡ line.now }
@@ -37,8 +39,7 @@ impl<'a> Words<'a> {
     // The next word.
     pub fn word(&mut self) -> Result<&'a [u8], BadLine>
         ensures word { MatchResult result (λ w. Found self.old.line.now self.old.next w.now self.new.next) (λ e. rest_at self.old.line.now self.old.next ≡ Err e) }
-        ensures line { self.new.line.now ≡ self.old.line.now }
-        ensures next { self.new.next ≡ behind self.old.line.now self.old.next }
+        ensures asked { Asked self.old self.new }
     {
         let Some(start) = self.next else {
             return Err(BadLine);
@@ -56,8 +57,7 @@ impl<'a> Words<'a> {
     // The next word, which is a number.
     pub fn number(&mut self) -> Result<u64, BadLine>
         ensures value { result ≡ number_at self.old.line.now self.old.next }
-        ensures line { self.new.line.now ≡ self.old.line.now }
-        ensures next { self.new.next ≡ behind self.old.line.now self.old.next }
+        ensures asked { Asked self.old self.new }
     {
         numbers::parse(self.word()?).ok_or(BadLine)
     }
@@ -66,8 +66,7 @@ impl<'a> Words<'a> {
     pub fn number_up_to(&mut self, most: u64) -> Result<u64, BadLine>
         ensures value { result ≡ number_up_to most (number_at self.old.line.now self.old.next) }
         ensures value_le_most { IfOk result (λ n. n ≤ most) }
-        ensures line { self.new.line.now ≡ self.old.line.now }
-        ensures next { self.new.next ≡ behind self.old.line.now self.old.next }
+        ensures asked { Asked self.old self.new }
     {
         let n = self.number()?;
         if n <= most { Ok(n) } else { Err(BadLine) }
@@ -76,8 +75,7 @@ impl<'a> Words<'a> {
     // The next word, which is a float.
     pub fn float(&mut self) -> Result<f32, BadLine>
         ensures value { result ≡ float_at self.old.line.now self.old.next }
-        ensures line { self.new.line.now ≡ self.old.line.now }
-        ensures next { self.new.next ≡ behind self.old.line.now self.old.next }
+        ensures asked { Asked self.old self.new }
     {
         floats::parse(self.word()?).ok_or(BadLine)
     }
@@ -88,8 +86,7 @@ impl<'a> Words<'a> {
         ensures value { result ≡ bytes_at (length list.old) self.old.line.now self.old.next }
         ensures count_in_bounds { IfOk result (λ n. n ≤ length list.old) }
         ensures list_after { list.new ≡ over (bytes_in (length list.old) (word_at self.old.line.now self.old.next)) list.old }
-        ensures line { self.new.line.now ≡ self.old.line.now }
-        ensures next { self.new.next ≡ behind self.old.line.now self.old.next }
+        ensures asked { Asked self.old self.new }
     {
         byte_lists::parse(self.word()?, list).ok_or(BadLine)
     }

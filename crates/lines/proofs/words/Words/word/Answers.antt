@@ -9,7 +9,7 @@ use Rattle.lines.proofs.words.Words.word.Goals as goal
 
 pub returns-in_default : goal.returns-in_default
 unfolding rest_at
-returns-in_default c = record { word = rw c.in_default.is; line = refl; next = rw c.in_default.is }
+returns-in_default c = record { word = rw c.in_default.is; asked = record { line = refl; next = rw c.in_default.is } }
 
 pub returns-then-is_empty : goal.returns-then-is_empty
 returns-then-is_empty c =
@@ -18,7 +18,7 @@ returns-then-is_empty c =
     let at : c.position-space.result ≡ position (λ b. nat_eq b 32) (take (length s - i) (drop i s)) =
     position_from_yields_List (λ b. nat_eq b 32) _ _ c.position-space.result c.position-space.ensures.ran (YieldsList-from_slice _ c.iter.ensures.rest) (λ x b q k. search (rules, tests)) in
     let none = none_is s i c.position-space.result c.unwrap_or.result at c.unwrap_or.ensures (eqb-true _ 0 (sym c.if-is_empty.ensures)) in
-    record { word = rw c.in-Some.is none; line = refl; next = rw (c.in-Some.is, none) }
+    record { word = rw c.in-Some.is none; asked = record { line = refl; next = rw (c.in-Some.is, none) } }
 
 pub returns : goal.returns
 returns c =
@@ -31,6 +31,5 @@ returns c =
     let next = next_is s i e c.unwrap_or.result at c.unwrap_or.ensures (eqb-false _ 0 (sym c.if-is_empty.ensures)) in
     record {
       word = rw c.in-Some.is (record { word = word_is s i e c.unwrap_or.result at c.unwrap_or.ensures; after = rw m next });
-      line = refl;
-      next = rw (c.in-Some.is, m, next);
+      asked = record { line = refl; next = rw (c.in-Some.is, m, next) };
     }
