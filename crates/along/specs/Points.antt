@@ -1,12 +1,14 @@
 -- A run point by point: the leg that was reached, and the joints that a point brings. Assumes nothing.
-use Rattle.std.specs.Prelude.{Bool, true, not, ◌&&◌, cond, List, [], ◌∷◌, Float}
+use Rattle.std.specs.Prelude.{drop, Bool, true, not, ◌&&◌, cond, List, [], ◌∷◌, Float}
 use Rattle.endpoint.specs.declared.Endpoint.{Endpoint}
 use Rattle.endpoint.specs.declared.EndpointData.{EndpointData}
 use Rattle.options.specs.declared.Stroke.{Stroke}
 use Rattle.kept.specs.Kept.{near, kept_behind}
+use Rattle.kept.specs.Held.{points_of}
 use Rattle.joints.specs.Leg.{next_leg_of}
 use Rattle.joints.specs.Joint.{joint_of, joints_from}
 use Rattle.joints.specs.declared.leg.Leg.{Leg}
+use Rattle.along.specs.declared.stretch.Stretch.{Stretch}
 
 -- the next point is kept: the leg to it, and the joint that the last leg ends in
 abbrev pub advanced : Stroke → Leg → Endpoint → List EndpointData
@@ -32,3 +34,7 @@ walked sure o leg (p ∷ ps) = walked sure o (visit_of sure o leg p) ps
 
 abbrev pub passed : Bool → Stroke → Leg → List Endpoint → List EndpointData
 passed sure o leg ps = joints_from true o leg (keeps o.near sure leg.to ps)
+
+-- the points of a stretch
+abbrev pub to_pass : Stretch → List Endpoint
+to_pass s = drop s.from (points_of s.points)

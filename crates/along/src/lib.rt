@@ -1,24 +1,23 @@
 // A pass along a run's points: each joint is written, or only counted, as soon as the leg behind it is known, so no point is stored.
 #![tactic(auto)]
 
+pub mod stretch;
 pub mod strips;
 
-ghost use Rattle.std.specs.Prelude.{[], ◌∷◌, ◌≡◌, ◌+◌, ◌<◌, length, drop};
-ghost use Rattle.endpoint.specs.Endpoint.{id_limit};
+ghost use Rattle.std.specs.Prelude.{[], ◌∷◌, ◌≡◌};
 ghost use Rattle.joints.specs.Joint.{joint_of};
 ghost use Rattle.joints.specs.Leg.{next_leg_of};
 ghost use Rattle.join.specs.Record.{counts_of};
-ghost use Rattle.kept.specs.Points.{endpoints_of};
 ghost use Rattle.pieces.specs.Piece.{lent, Lays};
 ghost use Rattle.strip.specs.Strip.{StripFits, piece_of};
-ghost use Rattle.along.specs.Points.{advanced, drops, visit_of, visited, walked, passed};
+ghost use Rattle.along.specs.Points.{advanced, drops, visit_of, visited, walked, passed, to_pass};
 ghost use Rattle.along.specs.Walk.{Walks};
 
-use endpoint::{Endpoint, EndpointId, VertexId};
+use crate::stretch::Stretch;
+use endpoint::Endpoint;
 use join::record::{Counts, counts_of};
 use joints::joint::{joint_counts, joint_of};
 use joints::leg::{Leg, next_leg};
-use kept::endpoint_at;
 use kept::near::is_near;
 use options::Stroke;
 use pieces::Index;
@@ -31,26 +30,11 @@ pub struct Pass {
     pub write: bool,
 }
 
-// Where a run stands: the numbers of its first endpoint and of its first vertex.
-#[derive(Clone, Copy)]
-pub struct At {
-    pub endpoint: EndpointId,
-    pub vertex: VertexId,
-}
-
 // How far a run has come: the leg reached, and what is written or counted.
 #[derive(Clone, Copy)]
 pub struct Walk {
     pub leg: Leg,
     pub strip: Strip,
-}
-
-// Points to pass: those of a list from one on, where the list's endpoints are numbered from first. On closing, points are sure to be kept.
-#[derive(Clone, Copy)]
-pub struct Stretch {
-    pub first: EndpointId,
-    pub from: usize,
-    pub sure: bool,
 }
 
 // The joint where the leg meets the next, written where the pass writes and only counted where it counts. The result is how many points
@@ -128,18 +112,14 @@ pub fn pass_points(
     src: &mut [u32],
     t: &mut [Index],
     pass: Pass,
-    w: Walk,
-    p: &[f32],
+    mut w: Walk,
     s: Stretch,
 ) -> Walk
-    requires p_bound { s.first.0 + length p.now < id_limit }
-    requires strip_fits { StripFits pass.write w.strip (passed s.sure pass.stroke w.leg (drop s.from (endpoints_of s.first.0 p.now))) (lent v.old src.old t.old) }
-    ensures { Walks pass.write (passed s.sure pass.stroke w.leg (drop s.from (endpoints_of s.first.0 p.now))) (walked s.sure pass.stroke w.leg (drop s.from (endpoints_of s.first.0 p.now))) w (lent v.old src.old t.old) (lent v.new src.new t.new) result }
+    requires { StripFits pass.write w.strip (passed s.sure pass.stroke w.leg (to_pass s)) (lent v.old src.old t.old) }
+    ensures { Walks pass.write (passed s.entry.sure pass.stroke w.leg (to_pass s.entry)) (walked s.entry.sure pass.stroke w.leg (to_pass s.entry)) w (lent v.old src.old t.old) (lent v.new src.new t.new) result }
 {
-    let mut w = w;
-    for i in s.from..p.len() / 2 {
-        let c = endpoint_at(p, s.first, i);
-        w = pass_point(v, src, t, pass, w, c, s.sure);
+    for i in s.from..s.points.count() {
+        w = pass_point(v, src, t, pass, w, s.points.at(i), s.sure);
     }
     w
 }

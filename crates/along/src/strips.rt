@@ -1,32 +1,28 @@
-// The strip along a run of two kept points or more, at the start of the lists that are lent. p has the run's coordinates; the second kept point stands
-// at i, and none is dropped on closing.
+// The strip along a run of two kept points or more, at the start of the lists that are lent; its vertices are numbered from base.
 ghost use Rattle.std.specs.Prelude.{true, false, ◌≡◌, [], ◌∷◌};
 ghost use Rattle.joints.specs.Leg.{first_leg_of};
 ghost use Rattle.joints.specs.Joint.{start_cap_of, end_cap_of, joints_of};
-ghost use Rattle.kept.specs.Looks.{run_from};
-ghost use Rattle.kept.specs.Points.{endpoint_at};
+ghost use Rattle.kept.specs.Held.{p0_of, p1_of, run_of};
 ghost use Rattle.strip.specs.Strip.{StripFits, StripPasses, start_of};
 ghost use Rattle.pieces.specs.Piece.{lent};
 ghost use Rattle.along.specs.Walk.{Walks};
-ghost use Rattle.along.specs.Strips.{Within, round_of};
+ghost use Rattle.along.specs.Strips.{round_of};
 
-use crate::{At, Pass, Stretch, Walk, pass_points};
-use endpoint::{EndpointData, EndpointId, VertexId, endpoint_after};
+use crate::stretch::Stretch;
+use crate::{Pass, Walk, pass_points};
+use endpoint::{EndpointData, VertexId};
 use joints::joint::{end_cap, start_cap};
 use joints::leg::{Leg, leg_of};
-use kept::endpoint_at;
+use kept::points::Kept;
 use pieces::Index;
 use strip::joint::{negative_count, positive_count};
 use strip::{Strip, lay_joint_if, start, step};
 
 // From p0 to the second kept point.
-pub fn first_leg(h: f32, p: &[f32], first: EndpointId, i: usize) -> Leg
-    requires { Within p.now first.0 i }
-    ensures { result ≡ first_leg_of h (endpoint_at p.now first.0 0) (endpoint_at p.now first.0 i) }
+pub fn first_leg(h: f32, k: Kept) -> Leg
+    ensures { result ≡ first_leg_of h (p0_of k.entry) (p1_of k.entry) }
 {
-    let p0 = endpoint_at(p, first, 0);
-    let p1 = endpoint_at(p, first, i);
-    leg_of(h, 0.0, p0, p1)
+    leg_of(h, 0.0, k.p0(), k.p1())
 }
 
 // A cap, written or only counted.
@@ -80,51 +76,32 @@ pub fn pass_open(
     src: &mut [u32],
     t: &mut [Index],
     pass: Pass,
-    p: &[f32],
-    at: At,
-    i: usize,
+    k: Kept,
+    base: VertexId,
 ) -> Strip
-    requires within { Within p.now at.endpoint.0 i }
-    requires strip_fits { StripFits pass.write (start_of at.vertex) (joints_of false pass.stroke (run_from pass.stroke.near p.now at.endpoint.0 i)) (lent v.old src.old t.old) }
-    ensures { StripPasses pass.write (joints_of false pass.stroke (run_from pass.stroke.near p.now at.endpoint.0 i)) (start_of at.vertex) (lent v.old src.old t.old) (lent v.new src.new t.new) result }
+    requires { StripFits pass.write (start_of base) (joints_of false pass.stroke (run_of pass.stroke.near k)) (lent v.old src.old t.old) }
+    ensures { StripPasses pass.write (joints_of false pass.stroke (run_of pass.stroke.near k.entry)) (start_of base) (lent v.old src.old t.old) (lent v.new src.new t.new) result }
 {
-    let leg = first_leg(pass.stroke.half_width, p, at.endpoint, i);
-    let begun = begin(v, src, t, pass, leg, at.vertex);
-    let rest = Stretch {
-        first: at.endpoint,
-        from: i + 1,
-        sure: false,
-    };
-    let w = pass_points(v, src, t, pass, begun, p, rest);
+    let leg = first_leg(pass.stroke.half_width, k);
+    let begun = begin(v, src, t, pass, leg, base);
+    let w = pass_points(v, src, t, pass, begun, Stretch::rest(k));
     finish(v, src, t, pass, w)
 }
 
-// Round to p0 and on to p1, the points 0 and i: the joins n-1 and 0 of a closed run.
+// Round to p0 and on to p1: the joins n-1 and 0 of a closed run.
 fn go_round(
     v: &mut [f32],
     src: &mut [u32],
     t: &mut [Index],
     pass: Pass,
     w: Walk,
-    p: &[f32],
-    on: Stretch,
+    k: Kept,
 ) -> Strip
-    requires within { Within p.now on.first.0 on.from }
-    requires strip_fits { StripFits pass.write w.strip (round_of pass.stroke w.leg (endpoint_at p.now on.first.0 0) (endpoint_at p.now on.first.0 on.from)) (lent v.old src.old t.old) }
-    ensures { StripPasses pass.write (round_of pass.stroke w.leg (endpoint_at p.now on.first.0 0) (endpoint_at p.now on.first.0 on.from)) w.strip (lent v.old src.old t.old) (lent v.new src.new t.new) result }
+    requires { StripFits pass.write w.strip (round_of pass.stroke w.leg (p0_of k) (p1_of k)) (lent v.old src.old t.old) }
+    ensures { StripPasses pass.write (round_of pass.stroke w.leg (p0_of k.entry) (p1_of k.entry)) w.strip (lent v.old src.old t.old) (lent v.new src.new t.new) result }
 {
-    let p0 = Stretch {
-        from: 0,
-        sure: true,
-        ..on
-    };
-    let home = pass_points(v, src, t, pass, w, &p[..2], p0);
-    let p1 = Stretch {
-        first: endpoint_after(on.first, on.from),
-        ..p0
-    };
-    let from = 2 * on.from;
-    let end = pass_points(v, src, t, pass, home, &p[from..from + 2], p1);
+    let home = pass_points(v, src, t, pass, w, Stretch::back(k));
+    let end = pass_points(v, src, t, pass, home, Stretch::on(k));
     end.strip
 }
 
@@ -134,29 +111,17 @@ pub fn pass_closed(
     src: &mut [u32],
     t: &mut [Index],
     pass: Pass,
-    p: &[f32],
-    at: At,
-    i: usize,
+    k: Kept,
+    base: VertexId,
 ) -> Strip
-    requires within { Within p.now at.endpoint.0 i }
-    requires strip_fits { StripFits pass.write (start_of at.vertex) (joints_of true pass.stroke (run_from pass.stroke.near p.now at.endpoint.0 i)) (lent v.old src.old t.old) }
-    ensures { StripPasses pass.write (joints_of true pass.stroke (run_from pass.stroke.near p.now at.endpoint.0 i)) (start_of at.vertex) (lent v.old src.old t.old) (lent v.new src.new t.new) result }
+    requires { StripFits pass.write (start_of base) (joints_of true pass.stroke (run_of pass.stroke.near k)) (lent v.old src.old t.old) }
+    ensures { StripPasses pass.write (joints_of true pass.stroke (run_of pass.stroke.near k.entry)) (start_of base) (lent v.old src.old t.old) (lent v.new src.new t.new) result }
 {
-    let leg = first_leg(pass.stroke.half_width, p, at.endpoint, i);
+    let leg = first_leg(pass.stroke.half_width, k);
     let begun = Walk {
         leg,
-        strip: start(at.vertex),
+        strip: start(base),
     };
-    let rest = Stretch {
-        first: at.endpoint,
-        from: i + 1,
-        sure: false,
-    };
-    let w = pass_points(v, src, t, pass, begun, p, rest);
-    let second = Stretch {
-        from: i,
-        sure: true,
-        ..rest
-    };
-    go_round(v, src, t, pass, w, p, second)
+    let w = pass_points(v, src, t, pass, begun, Stretch::rest(k));
+    go_round(v, src, t, pass, w, k)
 }

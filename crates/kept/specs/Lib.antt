@@ -3,3 +3,4 @@
 pub mod Points
 pub mod Kept
 pub mod Looks
+pub mod Held
