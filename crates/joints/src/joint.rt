@@ -19,17 +19,14 @@ fn data_of(
 ) -> EndpointData
     ensures { result ≡ data_of o p a positive negative }
 {
-    let position = p.position;
-    let id = p.id;
-    let line_join = o.line_join;
     EndpointData {
-        position: position,
+        position: p.position,
         half_width: o.half_width,
         advancement: a,
-        line_join: line_join,
-        id: id,
-        positive: positive,
-        negative: negative,
+        line_join: o.line_join,
+        id: p.id,
+        positive,
+        negative,
         fold_positive: false,
         fold_negative: false,
         inner_join: InnerJoin::Neither,
@@ -40,9 +37,8 @@ fn data_of(
 fn unworked(o: Stroke, leg: Leg) -> EndpointData
     ensures { result ≡ unworked_of o leg }
 {
-    let p = leg.to;
-    let none = single(p.position);
-    data_of(o, p, leg.end, none, none)
+    let none = single(leg.to.position);
+    data_of(o, leg.to, leg.end, none, none)
 }
 
 // The join where one leg ends and the next begins.
@@ -59,7 +55,7 @@ pub fn joint_of(o: Stroke, leg: Leg, next: Leg) -> EndpointData
     )
 }
 
-// The same for the pass that weaves arcs in.
+// The same for the pass that weaves arcs in. Not one function: what two places call the compiler copies into neither, 118 instructions a point (docs/SPEED.md).
 pub fn joint_again(o: Stroke, leg: Leg, next: Leg) -> EndpointData
     ensures { result ≡ joint_of o leg next }
 {
@@ -112,14 +108,12 @@ pub fn start_cap(o: Stroke, leg: Leg) -> EndpointData
     ensures { result ≡ start_cap_of o leg }
 {
     let edge = leg.edge;
-    let positive = edge.positive;
-    let negative = edge.negative;
     cap(
         o,
         leg.from,
         leg.start,
-        positive.from,
-        negative.from,
+        edge.positive.from,
+        edge.negative.from,
         negated(edge.t),
     )
 }
@@ -128,7 +122,12 @@ pub fn end_cap(o: Stroke, leg: Leg) -> EndpointData
     ensures { result ≡ end_cap_of o leg }
 {
     let edge = leg.edge;
-    let positive = edge.positive;
-    let negative = edge.negative;
-    cap(o, leg.to, leg.end, positive.to, negative.to, edge.t)
+    cap(
+        o,
+        leg.to,
+        leg.end,
+        edge.positive.to,
+        edge.negative.to,
+        edge.t,
+    )
 }

@@ -20,11 +20,11 @@ pub fn leg_of(h: f32, start: f32, from: Endpoint, to: Endpoint) -> Leg
 {
     let edge = edge_of(from.position, to.position, h);
     Leg {
-        from: from,
-        to: to,
-        start: start,
+        from,
+        to,
+        start,
         end: start + edge.length,
-        edge: edge,
+        edge,
     }
 }
 

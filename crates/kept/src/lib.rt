@@ -35,20 +35,18 @@ pub fn first_far(limit: f32, p: &[f32], first: EndpointId) -> usize
 {
     let p0 = endpoint_at(p, first, 0);
     let end = p.len() / 2;
-    let mut i: usize = 1;
-    while i < end {
+    for i in 1..end {
         let c = endpoint_at(p, first, i);
         if !is_near(limit, p0.position, c.position) {
             return i;
         }
-        i += 1;
     }
-    i
+    end
 }
 
 // How far a look for the end of a closed run has come: the last kept point, and the number of points
 // up to the last kept one that is not near p0.
-#[derive(Drop)]
+#[derive(Clone, Copy)]
 pub struct Look {
     pub last: Endpoint,
     pub end: usize,
@@ -58,19 +56,15 @@ fn looked(limit: f32, l: Look, p0: Endpoint, c: Endpoint, i: usize) -> Look
     requires { i < id_limit }
     ensures { result ≡ looked_of limit l p0 c i }
 {
-    let last = l.last;
-    if is_near(limit, last.position, c.position) {
-        return l;
-    }
-    if is_near(limit, p0.position, c.position) {
-        return Look {
+    if is_near(limit, l.last.position, c.position) {
+        l
+    } else if is_near(limit, p0.position, c.position) {
+        Look { last: c, ..l }
+    } else {
+        Look {
             last: c,
-            end: l.end,
-        };
-    }
-    Look {
-        last: c,
-        end: i + 1,
+            end: i + 1,
+        }
     }
 }
 
@@ -80,13 +74,9 @@ pub fn kept_end(limit: f32, p: &[f32], first: EndpointId) -> usize
     ensures { Ended limit p.now first.0 result }
 {
     let p0 = endpoint_at(p, first, 0);
-    let n = p.len() / 2;
     let mut l = Look { last: p0, end: 1 };
-    let mut i: usize = 1;
-    while i < n {
-        let c = endpoint_at(p, first, i);
-        l = looked(limit, l, p0, c, i);
-        i += 1;
+    for i in 1..p.len() / 2 {
+        l = looked(limit, l, p0, endpoint_at(p, first, i), i);
     }
     l.end
 }

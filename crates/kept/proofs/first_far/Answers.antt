@@ -1,7 +1,7 @@
 -- `kept::first_far` meets its contract. The plan: as long as no point was far, what is kept behind the first is what is kept of the points from i on; a point that is
 -- near (`told`) leaves that so, and one that is not ends the look. Assumes nothing.
-use Prim.Native.Nat.{◌+◌, ◌*◌, ◌≤◌}
-use mathlib.Core.Path.{◌≡◌, refl, sym, ◌∙◌}
+use Prim.Native.Nat.{◌+◌, ◌*◌, ◌/◌, ◌≤◌}
+use mathlib.Core.Path.{◌≡◌, sym, ◌∙◌}
 use native.Mathlib.Omega.{arith}
 use lib.ListN.{length}
 use Rattle.kept.specs.Kept.{near}
@@ -16,25 +16,18 @@ told : (c : After-is_near) → let a = c.args in
     near a.limit (endpoint_at a.p.now a.first.0 0) (endpoint_at a.p.now a.first.0 c.loop-i.i) ≡ c.is_near.result
 told c = rw (c.endpoint_at-c.ensures, c.endpoint_at-p0.ensures) at (sym c.is_near.ensures)
 
-pub endpoint_at-p0-requires : goal.endpoint_at-p0-requires
-endpoint_at-p0-requires c = omega (arith, c.requires)
-
-pub loop-i-init : goal.loop-i-init
-loop-i-init c = (omega arith, omega (arith, c.requires), refl)
-
 pub returns-then-not-is_near : goal.returns-then-not-is_near
 returns-then-not-is_near c =
-    let l = c.loop-i in
-    record { least = l.invariant.0; within = l.invariant.1; kept = l.invariant.2; far = λ h. told (goal.at.returns-then-not-is_near c).After-is_near ∙ c.if-not-is_near.true }
+    record { least = omega arith; within = omega arith; kept = c.loop-i.invariant; far = λ h. told (goal.at.returns-then-not-is_near c).After-is_near ∙ c.if-not-is_near.true }
 
 pub loop-i-preserved : goal.loop-i-preserved
 loop-i-preserved c =
     let l = c.loop-i in
     let a = c.args in
-    let h : 2 * l.i + 2 ≤ length a.p.now = omega (arith, c.loop-i-test.true) in
-    (omega arith, omega (arith, h), l.invariant.2 ∙ rw (points_at a.p.now a.first.0 l.i h) (keep_near _ _ _ _ (told (goal.at.loop-i-preserved c).After-is_near ∙ c.if-not-is_near.false)))
+    let h : 2 * l.i + 2 ≤ length a.p.now = omega arith in
+    l.invariant ∙ rw (points_at a.p.now a.first.0 l.i h) (keep_near _ _ _ _ (told (goal.at.loop-i-preserved c).After-is_near ∙ c.if-not-is_near.false))
 
 pub returns : goal.returns
 returns c =
-    let l = c.loop-i in
-    record { least = l.invariant.0; within = l.invariant.1; kept = l.invariant.2; far = λ h. absurd (omega (arith, c.loop-i-test.false)) }
+    let end : c.loop-i.i ≡ length c.args.p.now / 2 = omega arith in
+    record { least = omega arith; within = omega arith; kept = rw end at c.loop-i.invariant; far = λ h. absurd (omega arith) }

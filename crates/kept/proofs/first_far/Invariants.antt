@@ -1,7 +1,6 @@
--- The loop of `kept::first_far`: what each turn keeps, and what falls. Assumes nothing.
-use Prim.Native.Nat.{◌-◌, ◌/◌, ◌≤◌}
+-- The loop of `kept::first_far`: what each turn keeps. Assumes nothing.
 use mathlib.Core.Path.{◌≡◌}
-use lib.ListN.{length, drop}
+use lib.ListN.{drop}
 use Rattle.kept.specs.Kept.{kept_behind}
 use Rattle.kept.specs.Points.{endpoints_of, endpoint_at}
 use Rattle.kept.proofs.first_far.Given as goal
@@ -9,7 +8,4 @@ use Rattle.kept.proofs.first_far.Given as goal
 abbrev pub invariant-loop-i : goal.invariant-loop-i
 invariant-loop-i l =
     let o = endpoint_at l.p l.first.0 0 in
-    (1 ≤ l.i) × (l.i ≤ length l.p / 2) × (kept_behind l.limit o (drop 1 (endpoints_of l.first.0 l.p)) ≡ kept_behind l.limit o (drop l.i (endpoints_of l.first.0 l.p)))
-
-abbrev pub decreases-loop-i : goal.decreases-loop-i
-decreases-loop-i l = l.end - l.i
+    kept_behind l.limit o (drop 1 (endpoints_of l.first.0 l.p)) ≡ kept_behind l.limit o (drop l.i (endpoints_of l.first.0 l.p))

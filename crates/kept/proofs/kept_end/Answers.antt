@@ -3,22 +3,16 @@ use native.Mathlib.Omega.{arith}
 use Rattle.kept.proofs.Looks.{ending_none, ending_turn, ending_all}
 use Rattle.kept.proofs.kept_end.Goals as goal
 
-pub endpoint_at-p0-requires : goal.endpoint_at-p0-requires
-endpoint_at-p0-requires c = omega (arith, c.requires)
-
 pub loop-i-init : goal.loop-i-init
 loop-i-init c = rw c.endpoint_at-p0.ensures (ending_none _ _ _ c.requires.0)
-
-pub looked-l-requires : goal.looked-l-requires
-looked-l-requires c = omega (arith, c.loop-i-test.true, c.requires)
 
 pub loop-i-preserved : goal.loop-i-preserved
 loop-i-preserved c =
     let a = c.args in
-    rw (c.looked-l.ensures, c.endpoint_at-c.ensures, c.endpoint_at-p0.ensures)
-    (ending_turn a.limit a.p.now a.first.0 c.loop-i.l c.loop-i.i c.loop-i-test.true c.loop-i.invariant)
+    rw (c.looked-l.ensures, c.endpoint_at.ensures, c.endpoint_at-p0.ensures)
+    (ending_turn a.limit a.p.now a.first.0 c.loop-i.l c.loop-i.i (omega arith) c.loop-i.invariant)
 
 pub returns : goal.returns
 returns c =
     let a = c.args in
-    ending_all a.limit a.p.now a.first.0 c.loop-i.l c.loop-i.i c.loop-i-test.false c.loop-i.invariant
+    ending_all a.limit a.p.now a.first.0 c.loop-i.l c.loop-i.i (omega arith) c.loop-i.invariant

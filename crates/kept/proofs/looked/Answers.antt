@@ -9,8 +9,8 @@ returns-then-is_near c = rw (sym c.is_near.ensures ∙ c.if-is_near.true)
 
 pub returns-then-is_near-2 : goal.returns-then-is_near-2
 unfolding looked_of
-returns-then-is_near-2 c = rw (sym c.is_near.ensures ∙ c.if-is_near.false, sym c.is_near-2.ensures ∙ c.if-is_near-2.true)
+returns-then-is_near-2 c = rw (sym c.is_near.ensures ∙ c.if-is_near.false, sym c.is_near-else-is_near.ensures ∙ c.if-is_near-2.true)
 
-pub returns : goal.returns
+pub returns-else-is_near-2 : goal.returns-else-is_near-2
 unfolding looked_of
-returns c = rw (sym c.is_near.ensures ∙ c.if-is_near.false, sym c.is_near-2.ensures ∙ c.if-is_near-2.false)
+returns-else-is_near-2 c = rw (sym c.is_near.ensures ∙ c.if-is_near.false, sym c.is_near-else-is_near.ensures ∙ c.if-is_near-2.false)
