@@ -10,6 +10,7 @@ use options::Stroke;
 use plane::vector::{Point, negated, plus, times};
 
 // An endpoint with its advancement and its sides.
+#[tactic(auto, unfolding(crate::specs::Joint::data_of))]
 fn data_of(
     o: Stroke,
     p: Endpoint,
@@ -34,6 +35,7 @@ fn data_of(
 }
 
 // The endpoint where a leg ends, before its sides are worked.
+#[tactic(auto, unfolding(crate::specs::Joint::unworked_of))]
 fn unworked(o: Stroke, leg: Leg) -> EndpointData
     ensures { result ≡ unworked_of o leg }
 {
@@ -42,6 +44,7 @@ fn unworked(o: Stroke, leg: Leg) -> EndpointData
 }
 
 // The join where one leg ends and the next begins.
+#[tactic(auto, unfolding(crate::specs::Joint::joint_of))]
 pub fn joint_of(o: Stroke, leg: Leg, next: Leg) -> EndpointData
     ensures { result ≡ joint_of o leg next }
 {
@@ -56,6 +59,7 @@ pub fn joint_of(o: Stroke, leg: Leg, next: Leg) -> EndpointData
 }
 
 // The same for the pass that weaves arcs in. Not one function: what two places call the compiler copies into neither, 118 instructions a point (docs/SPEED.md).
+#[tactic(auto, unfolding(crate::specs::Joint::joint_of))]
 pub fn joint_again(o: Stroke, leg: Leg, next: Leg) -> EndpointData
     ensures { result ≡ joint_of o leg next }
 {
@@ -70,6 +74,7 @@ pub fn joint_again(o: Stroke, leg: Leg, next: Leg) -> EndpointData
 }
 
 // How many points its sides have; none is worked.
+#[tactic(auto, unfolding(crate::specs::Joint::joint_of))]
 pub fn joint_counts(o: Stroke, leg: Leg, next: Leg) -> Counts
     ensures { result ≡ counts_of (joint_of o leg next) }
 {
@@ -84,6 +89,7 @@ pub fn joint_counts(o: Stroke, leg: Leg, next: Leg) -> Counts
 }
 
 // The two side points at p, each moved outward by the clip.
+#[tactic(auto, unfolding(crate::specs::Joint::cap_of))]
 fn cap(
     o: Stroke,
     p: Endpoint,
@@ -104,6 +110,7 @@ fn cap(
     )
 }
 
+#[tactic(auto, unfolding(crate::specs::Joint::start_cap_of))]
 pub fn start_cap(o: Stroke, leg: Leg) -> EndpointData
     ensures { result ≡ start_cap_of o leg }
 {
@@ -118,6 +125,7 @@ pub fn start_cap(o: Stroke, leg: Leg) -> EndpointData
     )
 }
 
+#[tactic(auto, unfolding(crate::specs::Joint::end_cap_of))]
 pub fn end_cap(o: Stroke, leg: Leg) -> EndpointData
     ensures { result ≡ end_cap_of o leg }
 {

@@ -15,6 +15,7 @@ pub struct Leg {
 }
 
 // h is the half width, start the advancement where the leg begins.
+#[tactic(auto, unfolding(crate::specs::Leg::leg_of))]
 pub fn leg_of(h: f32, start: f32, from: Endpoint, to: Endpoint) -> Leg
     ensures { result ≡ leg_of h start from to }
 {
@@ -29,6 +30,7 @@ pub fn leg_of(h: f32, start: f32, from: Endpoint, to: Endpoint) -> Leg
 }
 
 // The leg from where another ends.
+#[tactic(auto, unfolding(crate::specs::Leg::next_leg_of))]
 pub fn next_leg(h: f32, leg: Leg, p: Endpoint) -> Leg
     ensures { result ≡ next_leg_of h leg p }
 {
