@@ -21,6 +21,7 @@ pub mod triangle;
 
 // How far a run's strip has come: where the next vertex and the next triangle go, and its first and
 // its last section once it has begun.
+// A flag and no Option of the two: the start cap's fan and the way round a closed run take them with no test, and would need an arm that never comes.
 #[derive(Clone, Copy)]
 pub struct Strip {
     pub place: Place,
