@@ -31,7 +31,7 @@ pub struct Bend {
 
 // How far the weaving has come: the strip that it goes along, where the next arc's vertex and the next triangle go, and whether the start cap's fan is due
 // behind the next edge.
-#[derive(Drop)]
+#[derive(Clone, Copy)]
 pub struct Weave {
     pub strip: Strip,
     pub place: Place,
@@ -43,13 +43,10 @@ fn lay_between(t: &mut [Index], k: Place, s: Section, e: Section) -> Place
     requires { FaceFits k (between s e) t.old }
     ensures { Faced k (between s e) t.old t.new result }
 {
-    let at = 3 * k.triangles;
-    let n = put_between(&mut t[at..], s, e);
-    let base = k.base;
+    let n = put_between(&mut t[3 * k.triangles..], s, e);
     Place {
-        base,
-        vertices: k.vertices,
         triangles: k.triangles + n,
+        ..k
     }
 }
 
@@ -59,9 +56,10 @@ fn lay_edge(t: &mut [Index], k: Place, s: Strip, b: Section) -> Place
     ensures { Faced k (edge_faces s b) t.old t.new result }
 {
     if s.begun {
-        return lay_between(t, k, s.last, b);
+        lay_between(t, k, s.last, b)
+    } else {
+        k
     }
-    k
 }
 
 // The start cap's fan, where it is due. The leg is the first.
@@ -80,10 +78,8 @@ fn lay_due(
     ensures { WeftPasses true k (due_weft o r w.due w.strip leg) (lent v.old src.old t.old) (lent v.new src.new t.new) result }
 {
     if w.due {
-        let strip = w.strip;
-        let last = strip.last;
-        let edge = leg.edge;
-        return lay_start_fan(
+        let last = w.strip.last;
+        lay_start_fan(
             v,
             src,
             t,
@@ -91,11 +87,12 @@ fn lay_due(
             start_cap(o, leg),
             last.negative,
             last.positive,
-            negated(edge.t),
+            negated(leg.edge.t),
             r.detail,
-        );
+        )
+    } else {
+        k
     }
-    k
 }
 
 // The arcs of both sides; s is the section before the joint.
@@ -112,10 +109,9 @@ fn lay_arcs(
     requires weft_fits { WeftFits true k (arcs_weft r b s) (lent v.old src.old t.old) }
     ensures { WeftPasses true k (arcs_weft r b s) (lent v.old src.old t.old) (lent v.new src.new t.new) result }
 {
-    let leg = b.leg;
-    let edge = leg.edge;
-    let p = lay_side(v, src, t, k, b.joint, Side::Positive, s.positive, edge.t, r);
-    lay_side(v, src, t, p, b.joint, Side::Negative, s.negative, edge.t, r)
+    let t_in = b.leg.edge.t;
+    let p = lay_side(v, src, t, k, b.joint, Side::Positive, s.positive, t_in, r);
+    lay_side(v, src, t, p, b.joint, Side::Negative, s.negative, t_in, r)
 }
 
 // The end cap's fan.
@@ -132,14 +128,21 @@ fn lay_end(
     requires weft_fits { WeftFits true k (end_weft r b s) (lent v.old src.old t.old) }
     ensures { WeftPasses true k (end_weft r b s) (lent v.old src.old t.old) (lent v.new src.new t.new) result }
 {
-    if b.end & r.caps {
-        let leg = b.leg;
-        let edge = leg.edge;
-        return lay_end_fan(
-            v, src, t, k, b.joint, s.negative, s.positive, edge.t, r.detail,
-        );
+    if b.end && r.caps {
+        lay_end_fan(
+            v,
+            src,
+            t,
+            k,
+            b.joint,
+            s.negative,
+            s.positive,
+            b.leg.edge.t,
+            r.detail,
+        )
+    } else {
+        k
     }
-    k
 }
 
 // All that a joint brings.
@@ -155,11 +158,10 @@ fn lay_bend(
     requires { BendFits true o r w b (lent v.old src.old t.old) }
     ensures { WeftPasses true w.place (bend_weft o r w.strip w.due b) (lent v.old src.old t.old) (lent v.new src.new t.new) result }
 {
-    let strip = w.strip;
-    let next = next_vertex(strip.place);
+    let next = next_vertex(w.strip.place);
     let s = before(next, b.joint);
     let e = after(next, b.joint);
-    let edge = lay_edge(t, w.place, strip, s);
+    let edge = lay_edge(t, w.place, w.strip, s);
     let due = lay_due(v, src, t, edge, o, r, w, b.leg);
     let own = lay_between(t, due, s, e);
     let arcs = lay_arcs(v, src, t, own, r, b, s);
@@ -174,7 +176,7 @@ fn bend_size(r: Round, due: bool, b: Bend) -> usize
     let level = r.detail;
     let p = arc_size(gets_arc(r.joins, b.joint, Side::Positive), level);
     let n = arc_size(gets_arc(r.joins, b.joint, Side::Negative), level);
-    fan_size(due, level) + (p + n) + fan_size(b.end & r.caps, level)
+    fan_size(due, level) + (p + n) + fan_size(b.end && r.caps, level)
 }
 
 // The same, counted: the strip's own triangles are those of its next state.
@@ -183,15 +185,12 @@ fn count_bend(r: Round, w: Weave, b: Bend, next: Strip) -> Place
     ensures { result ≡ counted_of r w b next }
 {
     let k = w.place;
-    let s = w.strip;
-    let was = s.place;
-    let is = next.place;
+    let own = next.place.triangles - w.strip.place.triangles;
     let n = bend_size(r, w.due, b);
-    let base = k.base;
     Place {
-        base,
         vertices: k.vertices + n,
-        triangles: k.triangles + (is.triangles - was.triangles) + n,
+        triangles: k.triangles + own + n,
+        ..k
     }
 }
 
@@ -212,9 +211,10 @@ fn place_bend(
     ensures { WeftPasses write w.place (bend_weft o r w.strip w.due b) (lent v.old src.old t.old) (lent v.new src.new t.new) result }
 {
     if write {
-        return lay_bend(v, src, t, o, r, w, b);
+        lay_bend(v, src, t, o, r, w, b)
+    } else {
+        count_bend(r, w, b, next)
     }
-    count_bend(r, w, b, next)
 }
 
 // One joint more.

@@ -16,12 +16,14 @@ pub struct Beat {
     pub at: f32,
 }
 
+#[tactic(auto, unfolding(crate::specs::Pattern::length_in))]
 fn is_length(d: f32) -> bool
     ensures { result ≡ length_in d }
 {
     0.25 <= d && d <= 32768.0
 }
 
+#[tactic(auto, unfolding(crate::specs::Pattern::offset_in))]
 fn is_offset(o: f32) -> bool
     ensures { result ≡ offset_in o }
 {
@@ -36,6 +38,7 @@ pub fn is_pattern(ds: &[f32], offset: f32) -> bool
 }
 
 // Length number i, the list taken over and over: twice over is the same again.
+#[tactic(auto, using(crate::proofs::Turns::length_at_lem))]
 pub fn length_at(ds: &[f32], i: usize) -> f32
     requires { 0 < length ds.now }
     ensures { result ≡ length_at ds.now i }
@@ -44,6 +47,7 @@ pub fn length_at(ds: &[f32], i: usize) -> f32
 }
 
 // Whether length number i is a dash, and not a gap: an odd list is taken twice over, so no list's length matters.
+#[tactic(auto, using(crate::proofs::Turns::is_dash_lem))]
 pub fn is_dash(i: usize) -> bool
     ensures { Dash i result }
 {
@@ -70,6 +74,7 @@ pub fn worn(ds: &[f32], offset: f32) -> Wear
 }
 
 // What is left of the length that the offset does not use up.
+#[tactic(auto, unfolding(crate::specs::Pattern::first_cut))]
 pub fn first_cut(ds: &[f32], w: Wear) -> Beat
     requires { 0 < length ds.now }
     ensures { result ≡ first_cut ds.now w }
@@ -81,6 +86,7 @@ pub fn first_cut(ds: &[f32], w: Wear) -> Beat
 }
 
 // The last cut plus its length.
+#[tactic(auto, unfolding(crate::specs::Pattern::next_cut))]
 pub fn next_cut(ds: &[f32], b: Beat) -> Beat
     requires { (0 < length ds.now) × (b.index < index_limit) }
     ensures { result ≡ next_cut ds.now b }

@@ -26,6 +26,7 @@ pub enum Mark {
 }
 
 // Whether the cut falls on the edge: at its end it is the next edge's.
+#[tactic(auto, unfolding(crate::specs::Marks::falls_on))]
 pub fn falls(s: Spot) -> bool
     ensures { result ≡ falls_on s }
 {
@@ -33,6 +34,7 @@ pub fn falls(s: Spot) -> bool
 }
 
 // Where the cut falls. Its number is that of the edge's start.
+#[tactic(auto, unfolding(crate::specs::Marks::cut_of))]
 pub fn cut_of(s: Spot) -> Endpoint
     ensures { result ≡ cut_of s }
 {
@@ -45,6 +47,7 @@ pub fn cut_of(s: Spot) -> Endpoint
 }
 
 // Past the cut.
+#[tactic(auto, unfolding(crate::specs::Marks::passed_of))]
 pub fn passed(ds: &[f32], s: Spot) -> Spot
     requires { (0 < lists.length ds.now) × (s.beat.index < index_limit) }
     ensures { result ≡ passed_of ds.now s }
@@ -56,6 +59,7 @@ pub fn passed(ds: &[f32], s: Spot) -> Spot
 }
 
 // On the edge from a, where the advancement is a0, to p.
+#[tactic(auto, unfolding(crate::specs::Marks::spot_of))]
 pub fn spot_of(a: Endpoint, a0: f32, p: Endpoint, b: Beat) -> Spot
     ensures { result ≡ spot_of a a0 p b }
 {

@@ -10,6 +10,7 @@ use options::Stroke;
 use plane::vector::{Point, negated, plus, times};
 
 // An endpoint with its advancement and its sides.
+#[tactic(auto, unfolding(crate::specs::Joint::data_of))]
 fn data_of(
     o: Stroke,
     p: Endpoint,
@@ -19,17 +20,14 @@ fn data_of(
 ) -> EndpointData
     ensures { result ≡ data_of o p a positive negative }
 {
-    let position = p.position;
-    let id = p.id;
-    let line_join = o.line_join;
     EndpointData {
-        position: position,
+        position: p.position,
         half_width: o.half_width,
         advancement: a,
-        line_join: line_join,
-        id: id,
-        positive: positive,
-        negative: negative,
+        line_join: o.line_join,
+        id: p.id,
+        positive,
+        negative,
         fold_positive: false,
         fold_negative: false,
         inner_join: InnerJoin::Neither,
@@ -37,15 +35,16 @@ fn data_of(
 }
 
 // The endpoint where a leg ends, before its sides are worked.
+#[tactic(auto, unfolding(crate::specs::Joint::unworked_of))]
 fn unworked(o: Stroke, leg: Leg) -> EndpointData
     ensures { result ≡ unworked_of o leg }
 {
-    let p = leg.to;
-    let none = single(p.position);
-    data_of(o, p, leg.end, none, none)
+    let none = single(leg.to.position);
+    data_of(o, leg.to, leg.end, none, none)
 }
 
 // The join where one leg ends and the next begins.
+#[tactic(auto, unfolding(crate::specs::Joint::joint_of))]
 pub fn joint_of(o: Stroke, leg: Leg, next: Leg) -> EndpointData
     ensures { result ≡ joint_of o leg next }
 {
@@ -59,7 +58,8 @@ pub fn joint_of(o: Stroke, leg: Leg, next: Leg) -> EndpointData
     )
 }
 
-// The same for the pass that weaves arcs in.
+// The same for the pass that weaves arcs in. Not one function: what two places call the compiler copies into neither, 118 instructions a point (docs/SPEED.md).
+#[tactic(auto, unfolding(crate::specs::Joint::joint_of))]
 pub fn joint_again(o: Stroke, leg: Leg, next: Leg) -> EndpointData
     ensures { result ≡ joint_of o leg next }
 {
@@ -74,6 +74,7 @@ pub fn joint_again(o: Stroke, leg: Leg, next: Leg) -> EndpointData
 }
 
 // How many points its sides have; none is worked.
+#[tactic(auto, unfolding(crate::specs::Joint::joint_of))]
 pub fn joint_counts(o: Stroke, leg: Leg, next: Leg) -> Counts
     ensures { result ≡ counts_of (joint_of o leg next) }
 {
@@ -88,6 +89,7 @@ pub fn joint_counts(o: Stroke, leg: Leg, next: Leg) -> Counts
 }
 
 // The two side points at p, each moved outward by the clip.
+#[tactic(auto, unfolding(crate::specs::Joint::cap_of))]
 fn cap(
     o: Stroke,
     p: Endpoint,
@@ -108,27 +110,32 @@ fn cap(
     )
 }
 
+#[tactic(auto, unfolding(crate::specs::Joint::start_cap_of))]
 pub fn start_cap(o: Stroke, leg: Leg) -> EndpointData
     ensures { result ≡ start_cap_of o leg }
 {
     let edge = leg.edge;
-    let positive = edge.positive;
-    let negative = edge.negative;
     cap(
         o,
         leg.from,
         leg.start,
-        positive.from,
-        negative.from,
+        edge.positive.from,
+        edge.negative.from,
         negated(edge.t),
     )
 }
 
+#[tactic(auto, unfolding(crate::specs::Joint::end_cap_of))]
 pub fn end_cap(o: Stroke, leg: Leg) -> EndpointData
     ensures { result ≡ end_cap_of o leg }
 {
     let edge = leg.edge;
-    let positive = edge.positive;
-    let negative = edge.negative;
-    cap(o, leg.to, leg.end, positive.to, negative.to, edge.t)
+    cap(
+        o,
+        leg.to,
+        leg.end,
+        edge.positive.to,
+        edge.negative.to,
+        edge.t,
+    )
 }

@@ -15,20 +15,22 @@ pub struct Leg {
 }
 
 // h is the half width, start the advancement where the leg begins.
+#[tactic(auto, unfolding(crate::specs::Leg::leg_of))]
 pub fn leg_of(h: f32, start: f32, from: Endpoint, to: Endpoint) -> Leg
     ensures { result ≡ leg_of h start from to }
 {
     let edge = edge_of(from.position, to.position, h);
     Leg {
-        from: from,
-        to: to,
-        start: start,
+        from,
+        to,
+        start,
         end: start + edge.length,
-        edge: edge,
+        edge,
     }
 }
 
 // The leg from where another ends.
+#[tactic(auto, unfolding(crate::specs::Leg::next_leg_of))]
 pub fn next_leg(h: f32, leg: Leg, p: Endpoint) -> Leg
     ensures { result ≡ next_leg_of h leg p }
 {

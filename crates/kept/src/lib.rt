@@ -39,6 +39,7 @@ pub struct Look {
     pub end: usize,
 }
 
+#[tactic(auto, unfolding(crate::specs::Looks::looked_of))]
 fn looked(limit: f32, l: Look, p0: Endpoint, c: Endpoint, i: usize) -> Look
     requires { i < id_limit }
     ensures { result ≡ looked_of limit l p0 c i }

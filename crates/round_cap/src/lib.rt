@@ -24,17 +24,18 @@ pub struct Corners {
 }
 
 // The normal of a corner is its direction, normalized.
+#[tactic(auto, unfolding(crate::specs::Cap::corner_of))]
 fn corner(vertex: VertexId, x: f32, y: f32) -> End
     ensures { result ≡ corner_of vertex x y }
 {
-    let direction = Point { x: x, y: y };
     End {
         vertex,
-        normal: normalize(direction),
+        normal: normalize(Point { x, y }),
     }
 }
 
 // All four, whose vertices are numbered from base.
+#[tactic(auto, unfolding(crate::specs::Cap::corners_from))]
 fn corners_from(base: VertexId) -> Corners
     requires { base.0 + 4 ≤ id_limit }
     ensures { result ≡ corners_from base }
@@ -66,7 +67,7 @@ fn put_pair(
     put_corner(&mut v[5..], &mut src[1..], e, h, 0.0, second, b.x, b.y);
 }
 
-// The four, with the square's sides.
+// The four, with the square's sides. Two calls and no loop: of the four neither the sides nor the signs go by a rule of the number, so a loop would need a table.
 fn put_corners(v: &mut [f32], src: &mut [u32], e: Endpoint, h: f32, q: Corners)
     requires { (20 ≤ length v.old) × (4 ≤ length src.old) × (e.id.0 < id_limit) }
     ensures v_after { v.new ≡ over (flat_v (corner_vertices e h q)) v.old }
@@ -118,18 +119,17 @@ fn lay_square(
 }
 
 // What the vertices of an arc share whose first corner has this side.
+#[tactic(auto, unfolding(crate::specs::Cap::rim_of))]
 fn rim_of(e: Endpoint, h: f32, side: Side) -> Hub
     requires { e.id.0 < id_limit }
     ensures { result ≡ rim_of e h side }
 {
-    let position = e.position;
-    let ahead = Point { x: 1.0, y: 0.0 };
     Hub {
-        position,
+        position: e.position,
         half_width: h,
         advancement: 0.0,
         source: source_of(e.id, side),
-        ahead,
+        ahead: Point { x: 1.0, y: 0.0 },
     }
 }
 
@@ -153,7 +153,7 @@ fn lay_half(
     lay_arc(v, src, t, between, second, b, c, detail)
 }
 
-// The arcs from corner to corner, at a place.
+// The arcs from corner to corner, at a place. Two calls and no loop: each place is the last call's, and the two hubs change places.
 fn lay_rim(
     v: &mut [f32],
     src: &mut [u32],

@@ -12,15 +12,13 @@ use vertices::base::add_join_base_vertices;
 pub fn positive_count(j: EndpointData) -> usize
     ensures { result ≡ side_count_of j.positive }
 {
-    let p = j.positive;
-    side_count(p)
+    side_count(j.positive)
 }
 
 pub fn negative_count(j: EndpointData) -> usize
     ensures { result ≡ side_count_of j.negative }
 {
-    let n = j.negative;
-    side_count(n)
+    side_count(j.negative)
 }
 
 // Both sides' vertices.

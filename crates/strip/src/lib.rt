@@ -10,7 +10,7 @@ ghost use Rattle.strip.specs.Triangle.{between};
 ghost use Rattle.strip.specs.Strip.{StripFits, StepFits, start_of, stepped_of, piece_of};
 
 use crate::joint::put_vertices;
-use crate::section::{Section, after, before, choose};
+use crate::section::{Section, after, before};
 use crate::triangle::{put_between, put_past};
 use endpoint::{EndpointData, VertexId, vertex_after};
 use pieces::{Index, Place, next_vertex};
@@ -21,6 +21,7 @@ pub mod triangle;
 
 // How far a run's strip has come: where the next vertex and the next triangle go, and its first and
 // its last section once it has begun.
+// A flag and no Option of the two: the start cap's fan and the way round a closed run take them with no test, and would need an arm that never comes.
 #[derive(Clone, Copy)]
 pub struct Strip {
     pub place: Place,
@@ -54,15 +55,12 @@ pub fn lay_joint(v: &mut [f32], src: &mut [u32], t: &mut [Index], s: Strip, j: E
     requires { StripFits true s (j ∷ []) (lent v.old src.old t.old) }
     ensures { lent v.new src.new t.new ≡ laid s.place (piece_of s (j ∷ [])) (lent v.old src.old t.old) }
 {
-    let place = s.place;
-    let next = next_vertex(place);
+    let next = next_vertex(s.place);
     let b = before(next, j);
     let a = after(next, j);
-    let from = place.vertices;
-    let at = 5 * from;
-    put_vertices(&mut v[at..], &mut src[from..], j);
-    let to = 3 * place.triangles;
-    put_past(&mut t[to..], s.begun, s.last, b, a);
+    let from = s.place.vertices;
+    put_vertices(&mut v[5 * from..], &mut src[from..], j);
+    put_past(&mut t[3 * s.place.triangles..], s.begun, s.last, b, a);
 }
 
 // The same where a pass writes.
@@ -88,9 +86,10 @@ fn more_triangles(begun: bool, triangles: usize, vertices: usize) -> usize
     ensures { result ≡ cond begun (triangles + vertices) (triangles + vertices - 2) }
 {
     if begun {
-        return triangles + vertices;
+        triangles + vertices
+    } else {
+        triangles + vertices - 2
     }
-    triangles + vertices - 2
 }
 
 // The state with one joint more, whose sides have so many vertices.
@@ -98,9 +97,7 @@ pub fn step(s: Strip, positive: usize, negative: usize) -> Strip
     requires { StepFits s positive negative }
     ensures { result ≡ stepped_of s positive negative }
 {
-    let place = s.place;
-    let base = place.base;
-    let next = next_vertex(place);
+    let next = next_vertex(s.place);
     let n = positive + negative;
     let before = Section {
         negative: vertex_after(next, positive),
@@ -108,12 +105,12 @@ pub fn step(s: Strip, positive: usize, negative: usize) -> Strip
     };
     Strip {
         place: Place {
-            base,
-            vertices: place.vertices + n,
-            triangles: more_triangles(s.begun, place.triangles, n),
+            vertices: s.place.vertices + n,
+            triangles: more_triangles(s.begun, s.place.triangles, n),
+            ..s.place
         },
         begun: true,
-        first: choose(s.begun, s.first, before),
+        first: if s.begun { s.first } else { before },
         last: Section {
             negative: vertex_after(next, n - 1),
             positive: vertex_after(next, positive - 1),

@@ -1,5 +1,5 @@
 // Rule 9: a section is the numbers of its negative and its positive vertex.
-ghost use Rattle.std.specs.Prelude.{◌≡◌, cond, ◌+◌, ◌<◌};
+ghost use Rattle.std.specs.Prelude.{◌≡◌, ◌+◌, ◌<◌};
 ghost use Rattle.endpoint.specs.Endpoint.{id_limit};
 ghost use Rattle.strip.specs.Joint.{joint_count};
 ghost use Rattle.strip.specs.Section.{before_of, after_of};
@@ -36,14 +36,4 @@ pub fn after(base: VertexId, j: EndpointData) -> Section
         negative: vertex_after(base, p + n - 1),
         positive: vertex_after(base, p - 1),
     }
-}
-
-// The section a where the test holds, and b elsewhere.
-pub fn choose(test: bool, a: Section, b: Section) -> Section
-    ensures { result ≡ cond test a b }
-{
-    if test {
-        return a;
-    }
-    b
 }

@@ -13,13 +13,7 @@ use vertices::list::put_triangle;
 fn different(a: VertexId, b: VertexId, c: VertexId) -> bool
     ensures { result ≡ different a.0 b.0 c.0 }
 {
-    if a.0 == b.0 {
-        return false;
-    }
-    if b.0 == c.0 {
-        return false;
-    }
-    a.0 != c.0
+    a.0 != b.0 && b.0 != c.0 && a.0 != c.0
 }
 
 // A triangle, left out if two of its numbers are equal. The result is the number of triangles.
@@ -30,9 +24,10 @@ fn put_different(t: &mut [Index], a: VertexId, b: VertexId, c: VertexId) -> usiz
 {
     if different(a, b, c) {
         put_triangle(t, a, b, c);
-        return 1;
+        1
+    } else {
+        0
     }
-    0
 }
 
 // (N, P, P') and (N, P', N'). The result is the number of triangles.
@@ -42,8 +37,7 @@ pub fn put_between(t: &mut [Index], s: Section, e: Section) -> usize
     ensures t_after { t.new ≡ over (flat_t (between s e)) t.old }
 {
     let n = put_different(t, s.negative, s.positive, e.positive);
-    let at = 3 * n;
-    let m = put_different(&mut t[at..], s.negative, e.positive, e.negative);
+    let m = put_different(&mut t[3 * n..], s.negative, e.positive, e.negative);
     n + m
 }
 
@@ -66,9 +60,10 @@ fn put_to(t: &mut [Index], begun: bool, last: Section, b: Section) -> usize
 {
     if begun {
         put_both(t, last, b);
-        return 2;
+        2
+    } else {
+        0
     }
-    0
 }
 
 // To the section before a joint, and on to the one after it. The result is the number of triangles.
@@ -79,7 +74,6 @@ pub fn put_past(t: &mut [Index], begun: bool, last: Section, b: Section, a: Sect
     ensures t_after { t.new ≡ over (flat_t (past (cond begun last b) b a)) t.old }
 {
     let n = put_to(t, begun, last, b);
-    let at = 3 * n;
-    let m = put_between(&mut t[at..], b, a);
+    let m = put_between(&mut t[3 * n..], b, a);
     n + m
 }

@@ -1,11 +1,7 @@
 -- `bends::lay_bend` meets its contract. Assumes nothing.
-use native.Mathlib.Omega.{arith}
 use Rattle.strip.specs.Strip.{next_of}
 use Rattle.bends.proofs.Writing.{edge_fits, due_fits, own_fits, arcs_fits, end_fits, bend_passes, near_fit}
 use Rattle.bends.proofs.lay_bend.Goals as goal
-
-pub next_vertex-next-requires : goal.next_vertex-next-requires
-next_vertex-next-requires c = omega (arith, c.requires.numbers)
 
 pub before-s-requires : goal.before-s-requires
 before-s-requires c = rw c.next_vertex-next.ensures c.requires.numbers

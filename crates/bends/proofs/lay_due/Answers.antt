@@ -14,6 +14,6 @@ unfolding due_weft
 returns-then-w c =
     rw c.if-w.true (rw (c.negated.ensures, c.start_cap.ensures) at c.lay_start_fan.ensures)
 
-pub returns : goal.returns
+pub returns-else-w : goal.returns-else-w
 unfolding due_weft
-returns c = rw c.if-w.false puts_none
+returns-else-w c = rw c.if-w.false puts_none

@@ -11,6 +11,6 @@ pub returns-then-s : goal.returns-then-s
 unfolding edge_faces
 returns-then-s c = rw c.if-s.true c.lay_between.ensures
 
-pub returns : goal.returns
+pub returns-else-s : goal.returns-else-s
 unfolding edge_faces
-returns c = rw c.if-s.false (faced_none _ _)
+returns-else-s c = rw c.if-s.false (faced_none _ _)

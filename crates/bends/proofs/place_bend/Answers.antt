@@ -10,8 +10,5 @@ lay_bend-requires c = rw c.if-write.true at c.requires.bend_fits
 pub returns-then-write : goal.returns-then-write
 returns-then-write c = rw c.if-write.true c.lay_bend.ensures
 
-pub count_bend-requires : goal.count_bend-requires
-count_bend-requires c = c.requires.count_fits
-
-pub returns : goal.returns
-returns c = record { place = c.count_bend.ensures ∙ counted_is c.args.o c.args.r c.args.w c.args.b c.args.next c.requires.count_fits; lists = λ w. absurd (true≢false (sym w ∙ c.if-write.false)) }
+pub returns-else-write : goal.returns-else-write
+returns-else-write c = record { place = c.count_bend.ensures ∙ counted_is c.args.o c.args.r c.args.w c.args.b c.args.next c.requires.count_fits; lists = λ w. absurd (true≢false (sym w ∙ c.if-write.false)) }

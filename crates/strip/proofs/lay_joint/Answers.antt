@@ -8,52 +8,14 @@ use Rattle.strip.proofs.lay_joint.Goals as goal
 told : (c : After-after-a) → Sections c.args.s c.args.j c.before-b.result c.after-a.result
 told c = let next = c.next_vertex-next.ensures in record { before = rw next at c.before-b.ensures; after = rw next at c.after-a.ensures }
 
-pub next_vertex-next-requires : goal.next_vertex-next-requires
-next_vertex-next-requires c = omega (arith, numbers_fit c.requires)
-
 pub before-b-requires : goal.before-b-requires
 before-b-requires c = rw c.next_vertex-next.ensures (numbers_fit c.requires)
 
 pub after-a-requires : goal.after-a-requires
 after-a-requires c = rw c.next_vertex-next.ensures (numbers_fit c.requires)
 
-pub overflow_mul-at : goal.overflow_mul-at
-overflow_mul-at c = omega (arith, numbers_fit c.requires)
-
-pub offset_bounds-v-at : goal.offset_bounds-v-at
-offset_bounds-v-at c = omega (arith, numbers_fit c.requires)
-
-pub slice_bounds-put_vertices-count : goal.slice_bounds-put_vertices-count
-slice_bounds-put_vertices-count c = omega (arith, vertices_fit c.requires)
-
-pub slice_bounds-put_vertices-start : goal.slice_bounds-put_vertices-start
-slice_bounds-put_vertices-start c = omega (arith, vertices_fit c.requires)
-
-pub offset_bounds-src-from : goal.offset_bounds-src-from
-offset_bounds-src-from c = omega (arith, numbers_fit c.requires)
-
-pub slice_bounds-put_vertices-count-2 : goal.slice_bounds-put_vertices-count-2
-slice_bounds-put_vertices-count-2 c = omega (arith, vertices_fit c.requires)
-
-pub slice_bounds-put_vertices-start-2 : goal.slice_bounds-put_vertices-start-2
-slice_bounds-put_vertices-start-2 c = omega (arith, vertices_fit c.requires)
-
 pub put_vertices-requires : goal.put_vertices-requires
 put_vertices-requires c = simp (length-take, length-drop) (omega (arith, vertices_fit c.requires))
-
-pub overflow_mul-to : goal.overflow_mul-to
-overflow_mul-to c = omega (arith, c.requires.fits.faces)
-
-pub offset_bounds-t-to : goal.offset_bounds-t-to
-offset_bounds-t-to c = omega (arith, c.requires.fits.faces)
-
-pub slice_bounds-put_past-count : goal.slice_bounds-put_past-count
-slice_bounds-put_past-count c =
-    omega (arith, triangles_fit c.requires (told (goal.at.slice_bounds-put_past-count c).After-after-a))
-
-pub slice_bounds-put_past-start : goal.slice_bounds-put_past-start
-slice_bounds-put_past-start c =
-    omega (arith, triangles_fit c.requires (told (goal.at.slice_bounds-put_past-start c).After-after-a))
 
 pub put_past-requires : goal.put_past-requires
 put_past-requires c =

@@ -1,21 +1,13 @@
 -- `strip::step` meets its contract. Assumes nothing.
-use native.Mathlib.Omega.{arith}
+use mathlib.Core.Bool.{cond}
+use mathlib.Core.Path.{◌≡◌}
 use Rattle.strip.specs.Strip.{stepped_of}
+use Rattle.strip.proofs.step.Goals.{then-s, else-s}
 use Rattle.strip.proofs.step.Goals as goal
-
-pub next_vertex-next-requires : goal.next_vertex-next-requires
-next_vertex-next-requires c = omega (arith, c.requires.numbers)
-
-pub vertex_after-requires : goal.vertex_after-requires
-vertex_after-requires c = rw c.next_vertex-next.ensures (omega arith)
-
-pub vertex_after-requires-2 : goal.vertex_after-requires-2
-vertex_after-requires-2 c = rw c.next_vertex-next.ensures (omega (arith, c.requires))
-
-pub vertex_after-requires-3 : goal.vertex_after-requires-3
-vertex_after-requires-3 c = rw c.next_vertex-next.ensures (omega (arith, c.requires))
 
 pub returns : goal.returns
 unfolding stepped_of
 returns c =
-    rw (c.vertex_after-3.ensures, c.vertex_after-2.ensures, c.choose.ensures, c.more_triangles.ensures, c.vertex_after.ensures, c.next_vertex-next.ensures)
+    let first : c.if-s.result ≡ cond c.args.s.begun c.args.s.first (record { negative = c.vertex_after.result; positive = c.next_vertex-next.result }) =
+    elim c.if-s.branch [ then-s w ↦ rw (w.if-s.true, w.result-is) | else-s w ↦ rw (w.if-s.false, w.result-is) ] in
+    rw (first, c.vertex_after-3.ensures, c.vertex_after-2.ensures, c.more_triangles.ensures, c.vertex_after.ensures, c.next_vertex-next.ensures)

@@ -1,13 +1,6 @@
 -- `strip::section::after` meets its contract. Assumes nothing.
-use native.Mathlib.Omega.{arith}
-use Rattle.strip.proofs.Joints.{side_few, after_counted}
+use Rattle.strip.proofs.Joints.{after_counted}
 use Rattle.strip.proofs.section.after.Goals as goal
-
-pub overflow_sub-p : goal.overflow_sub-p
-overflow_sub-p c = omega (arith, side_few c.args.j.positive)
-
-pub overflow_sub-p-2 : goal.overflow_sub-p-2
-overflow_sub-p-2 c = omega (arith, side_few c.args.j.positive)
 
 pub returns : goal.returns
 returns c =

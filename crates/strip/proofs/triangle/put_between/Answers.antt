@@ -17,11 +17,11 @@ pub put_different-n-requires : goal.put_different-n-requires
 unfolding between
 put_different-n-requires c = omega (arith, simp length-append at c.requires)
 
-pub overflow_mul-at : goal.overflow_mul-at
-overflow_mul-at c = omega (arith, room (goal.at.overflow_mul-at c).After-put_different-n)
+pub overflow_mul-n : goal.overflow_mul-n
+overflow_mul-n c = omega (arith, room (goal.at.overflow_mul-n c).After-put_different-n)
 
-pub offset_bounds-t-at : goal.offset_bounds-t-at
-offset_bounds-t-at c = omega (arith, room (goal.at.offset_bounds-t-at c).After-put_different-n)
+pub offset_bounds-t-n : goal.offset_bounds-t-n
+offset_bounds-t-n c = omega (arith, room (goal.at.offset_bounds-t-n c).After-put_different-n)
 
 pub slice_bounds-put_different-count : goal.slice_bounds-put_different-count
 slice_bounds-put_different-count c = omega (arith, room (goal.at.slice_bounds-put_different-count c).After-put_different-n)

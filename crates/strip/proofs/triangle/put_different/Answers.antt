@@ -19,8 +19,8 @@ returns-then-different c =
     let whole = tri_some _ _ _ (sym c.different.ensures ∙ c.if-different.true) in
     record { value = rw whole refl; t_after = rw whole c.put_triangle.ensures }
 
-pub returns : goal.returns
+pub returns-else-different : goal.returns-else-different
 unfolding flat
-returns c =
+returns-else-different c =
     let none = tri_none _ _ _ (sym c.different.ensures ∙ c.if-different.false) in
     record { value = rw none refl; t_after = rw none (sym (over_none _)) }

@@ -14,23 +14,8 @@ room c = omega (arith, c.put_to-n.ensures.value, simp length-append at c.require
 pub put_to-n-requires : goal.put_to-n-requires
 put_to-n-requires c = record { b_in_bounds = omega (arith, simp length-append at c.requires.a_in_bounds); b_value = c.requires.b_value }
 
-pub overflow_mul-at : goal.overflow_mul-at
-overflow_mul-at c = omega (arith, room (goal.at.overflow_mul-at c).After-put_to-n)
-
-pub offset_bounds-t-at : goal.offset_bounds-t-at
-offset_bounds-t-at c = omega (arith, room (goal.at.offset_bounds-t-at c).After-put_to-n)
-
-pub slice_bounds-put_between-count : goal.slice_bounds-put_between-count
-slice_bounds-put_between-count c = omega (arith, room (goal.at.slice_bounds-put_between-count c).After-put_to-n)
-
-pub slice_bounds-put_between-start : goal.slice_bounds-put_between-start
-slice_bounds-put_between-start c = omega (arith, room (goal.at.slice_bounds-put_between-start c).After-put_to-n)
-
 pub put_between-m-requires : goal.put_between-m-requires
 put_between-m-requires c = simp (length-take, length-drop) (omega (arith, room (goal.at.put_between-m-requires c).After-put_to-n))
-
-pub overflow_add-result : goal.overflow_add-result
-overflow_add-result c = omega (arith, room (goal.at.overflow_add-result c).After-put_to-n)
 
 pub returns : goal.returns
 returns c = let both = two_writers _ _ _ _ _ _ _ c.requires.a_in_bounds c.put_to-n.ensures.value c.put_to-n.ensures.t_after c.put_between-m.ensures.value c.put_between-m.ensures.t_after in record { value = both.0; t_after = both.1 }

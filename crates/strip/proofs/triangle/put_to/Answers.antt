@@ -15,6 +15,6 @@ pub returns-then-begun : goal.returns-then-begun
 unfolding both_of
 returns-then-begun c = record { value = rw (c.if-begun.true, c.requires.b_value c.if-begun.true) refl; t_after = rw (c.if-begun.true, c.requires.b_value c.if-begun.true) c.put_both.ensures }
 
-pub returns : goal.returns
+pub returns-else-begun : goal.returns-else-begun
 unfolding flat
-returns c = record { value = rw (c.if-begun.false, between_same c.args.b) refl; t_after = rw (c.if-begun.false, between_same c.args.b) (sym (over_none _)) }
+returns-else-begun c = record { value = rw (c.if-begun.false, between_same c.args.b) refl; t_after = rw (c.if-begun.false, between_same c.args.b) (sym (over_none _)) }
