@@ -40,9 +40,6 @@ module _ (limit : Float) (p : List Float) (first : ℕ) where
   pub kept_closed : (e : ℕ) → 2 ≤ length p → Ended limit p first e → KeptTo limit p first true (2 * e)
   kept_closed e h f = record { least = omega (arith, f.least); end = omega (arith, f.within); kept = kept_ended limit p first e h f }
 
-  pub kept_open : 2 ≤ length p → KeptTo limit p first false (length p)
-  kept_open h = record { least = h; end = omega arith; kept = rw (take_all (length p) p (omega arith)) }
-
   module _ (closed : Bool) (ds : List Float) where
     -- no dashes
     pub no_lengths : length ds ≡ 0 → Seconds limit p first closed ds None
