@@ -73,9 +73,6 @@ module _ (o : Stroke) (p0 p1 : Endpoint) (ps : List Endpoint) {first : Leg} (is 
 
 -- ---- round: from a leg to p0 and on to p1, which are sure to be kept
 module _ (o : Stroke) (w : Walk) (p0 p1 : Endpoint) where
-  home : Leg
-  home = next_leg_of o.half_width w.leg p0
-
   module _ {write : Bool} {l0 : Lists} (has : StripFits write w.strip (round_of o w.leg p0 p1) l0) where
     pub home_has : StripFits write w.strip (passed true o w.leg (p0 ∷ [])) l0
     unfolding joints_from

@@ -23,7 +23,11 @@ fn draws_cap(o: Stroke, ends: Ends) -> bool
 fn cap_size(o: Stroke) -> usize
     ensures { result ≡ cap_size o }
 {
-    if rounds_caps(o.cap) { 4 << level_of(o) } else { 4 }
+    if rounds_caps(o.cap) {
+        4 << level_of(o)
+    } else {
+        4
+    }
 }
 
 // The empty cap at a point.

@@ -4,8 +4,9 @@ use Prim.Native.Nat.{ℕ, ◌+◌, ◌*◌, ◌/◌, ◌≤◌, ◌<◌}
 use mathlib.Core.Path.{◌≡◌, refl, sym, ◌∙◌}
 use mathlib.Core.Bool.{Bool, true, false, ◌&&◌, true≢false}
 use mathlib.Core.List.{List, [], ◌∷◌, append-nil}
+use Rattle.std.specs.Prelude.{Some, None}
 use native.Mathlib.Omega.{arith}
-use borrow.Author.Tests.{ltb-true, ltb-false, lt-ltb}
+use borrow.Author.Tests.{ltb-true, lt-ltb}
 use lib.Dec.{ltb}
 use lib.Ieee.{Float}
 use lib.ListN.{length, take}
@@ -39,17 +40,14 @@ module _ (limit : Float) (p : List Float) (first : ℕ) where
   pub kept_closed : (e : ℕ) → 2 ≤ length p → Ended limit p first e → KeptTo limit p first true (2 * e)
   kept_closed e h f = record { least = omega (arith, f.least); end = omega (arith, f.within); kept = kept_ended limit p first e h f }
 
-  pub kept_open : 2 ≤ length p → KeptTo limit p first false (length p)
-  kept_open h = record { least = h; end = omega arith; kept = rw (take_all (length p) p (omega arith)) }
-
   module _ (closed : Bool) (ds : List Float) where
     -- no dashes
-    pub no_lengths : length ds ≡ 0 → Seconds limit p first closed ds (record { cut = false; to = 0; i = 0 })
-    no_lengths h = record { cut = rw h; here = λ e. absurd (true≢false (sym e)) }
+    pub no_lengths : length ds ≡ 0 → Seconds limit p first closed ds None
+    no_lengths h = record { cut = rw h; here = tt }
 
-    pub no_points : length p < 2 → Seconds limit p first closed ds (record { cut = false; to = 0; i = 0 })
+    pub no_points : length p < 2 → Seconds limit p first closed ds None
     unfolding kept_points endpoints_of
-    no_points h = record { cut = go p h; here = λ e. absurd (true≢false (sym e)) }
+    no_points h = record { cut = go p h; here = tt }
       where
         none : (t : Bool) → false ≡ (t && false)
         none true = refl
@@ -64,24 +62,21 @@ module _ (limit : Float) (p : List Float) (first : ℕ) where
       part : length (take to p) ≡ to
       part = length-take-le to p k.end
 
-      cut_here : i < to / 2 → Cut limit p first closed (record { cut = true; to = to; i = i })
-      cut_here h =
-          let two : 2 ≤ length (take to p) = omega (arith, part, k.least) in
-          record {
-            end = k.end;
-            within = record { point = omega (arith, part); few = omega (arith, part, k.end) };
-            kept = k.kept ∙ kept_far limit (take to p) first i two f (omega (arith, part));
-          }
+      two : 2 ≤ length (take to p)
+      two = omega (arith, part, k.least)
 
-      pub second_found : Seconds limit p first closed ds (record { cut = ltb i (to / 2); to = to; i = i })
-      second_found = go (ltb i (to / 2)) refl
-        where
-          go : (t : Bool) → ltb i (to / 2) ≡ t → Seconds limit p first closed ds (record { cut = t; to = to; i = i })
-          go true h = let c = cut_here (ltb-true i (to / 2) h) in record { cut = rw (lt-ltb 0 (length ds) some, c.kept, two_kept); here = λ e. c }
-          go false h =
-              let two : 2 ≤ length (take to p) = omega (arith, part, k.least) in
-              let alone = kept_alone limit (take to p) first i two f (omega (arith, part, ltb-false i (to / 2) h)) in
-              record { cut = rw (lt-ltb 0 (length ds) some, k.kept, alone); here = λ e. absurd (true≢false (sym e)) }
+      cut_here : i < to / 2 → Cut limit p first closed (record { to = to; i = i })
+      cut_here h = record {
+        end = k.end;
+        within = record { point = omega (arith, part); few = omega (arith, part, k.end) };
+        kept = k.kept ∙ kept_far limit (take to p) first i two f (omega (arith, part));
+      }
+
+      pub second_here : i < to / 2 → Seconds limit p first closed ds (Some (record { to = to; i = i }))
+      second_here h = let c = cut_here h in record { cut = rw (lt-ltb 0 (length ds) some, c.kept, two_kept); here = c }
+
+      pub second_none : to / 2 ≤ i → Seconds limit p first closed ds None
+      second_none h = let alone = kept_alone limit (take to p) first i two f (omega (arith, part)) in record { cut = rw (lt-ltb 0 (length ds) some, k.kept, alone); here = tt }
 
 -- ---- what is drawn
 module _ (o : Stroke) (ds : List Float) (r : Run Endpoint) where
@@ -113,7 +108,7 @@ module _ (o : Stroke) (ds : List Float) (r : Run Endpoint) where
       go true e h = ltb-true 0 (length ds) e
       go false e h = absurd (true≢false (sym h))
 
-module _ (pass : Pass) (ds : List Float) {p : List Float} {first : ℕ} {closed : Bool} {s : Second} (e : Seconds pass.stroke.near p first closed ds s) where
+module _ (pass : Pass) (ds p : List Float) (first : ℕ) (closed : Bool) where
   abbrev o : Stroke
   o = pass.stroke
 
@@ -124,18 +119,18 @@ module _ (pass : Pass) (ds : List Float) {p : List Float} {first : ℕ} {closed 
   whole base = mesh_piece o (from base) (cut_of o ds (run ∷ []))
 
   -- cut
-  module _ (h : s.cut ≡ true) {r : Round} (er : r ≡ round_of o) where
+  module _ {s : Second} (e : Seconds pass.stroke.near p first closed ds (Some s)) {r : Round} (er : r ≡ round_of o) where
     abbrev found : List Endpoint
     found = run_from o.near (take s.to p) first s.i
 
     is_cut_lem : is_cut ds (kept_points o.near closed (endpoints_of first p)) ≡ true
-    is_cut_lem = sym e.cut ∙ h
+    is_cut_lem = sym e.cut
 
     dashes_are : (base : VertexId) → run_piece o r base closed ds o.offset found ≡ whole base
-    dashes_are base = rw (er, ← (e.here h).kept) (cut_piece o ds run base is_cut_lem)
+    dashes_are base = rw (er, ← e.here.kept) (cut_piece o ds run base is_cut_lem)
 
     pub dashes_few : CutsFew o ds (run ∷ []) → (0 < length ds) × (run_cuts closed ds o.offset found ≤ cut_limit) × (r.detail ≤ 6)
-    dashes_few f = let some = cut_some o ds run is_cut_lem in (some, rw (e.here h).kept at (cut_few o ds run some f), round_shallow o er)
+    dashes_few f = let some = cut_some o ds run is_cut_lem in (some, rw e.here.kept at (cut_few o ds run some f), round_shallow o er)
 
     module _ {base : VertexId} {l : Lists} where
       pub dashes_fit : Fits pass.write (from base) (whole base) l → Fits pass.write (from base) (run_piece o r base closed ds o.offset found) l
@@ -145,9 +140,9 @@ module _ (pass : Pass) (ds : List Float) {p : List Float} {first : ℕ} {closed 
       dashes_drawn f = rw (dashes_are base) at f
 
   -- or not
-  module _ (h : s.cut ≡ false) where
+  module _ (e : Seconds pass.stroke.near p first closed ds None) where
     shape_is : (base : VertexId) → shape_piece o closed base (drawn_of o run) ≡ whole base
-    shape_is base = uncut_piece o ds run base (sym e.cut ∙ h)
+    shape_is base = uncut_piece o ds run base (sym e.cut)
 
     module _ {base : VertexId} {l : Lists} where
       pub run_fits : Fits pass.write (from base) (whole base) l → DrawFits pass closed base (drawn_of o run) l

@@ -24,7 +24,7 @@ use Rattle.runs.specs.Runs.{cut_of, CutsFew, mesh_vertices, mesh_triangles, mesh
 use Rattle.runs.specs.Cursor.{undrawn, start_of, moved_of, current_of, ended_of}
 use Rattle.runs.specs.Passes.{Paired, Inside}
 use Rattle.runs.specs.declared.cursor.Cursor.{Cursor}
-use Rattle.runs.proofs.Passing.{Passing, moved_place, pass_none, pass_split, pass_turn, pass_all, pass_inside}
+use Rattle.runs.proofs.Passing.{Passing, moved_place, pass_none, pass_split, pass_turn, pass_all}
 use Rattle.runs.proofs.Runs.{meshes_append}
 
 -- ---- runs one behind the other, as they are drawn
@@ -107,9 +107,6 @@ pub going_none : (write : Bool) (o : Stroke) (ds : List Float) (vs : List ℕ) (
 going_none write o ds vs ps l = record { done = []; passing = pass_none vs ps; puts = runs_none o ds }
 
 module _ {write : Bool} {o : Stroke} {ds : List Float} {vs : List ℕ} {ps : List Endpoint} {l0 : Lists} {i : ℕ} {g : Cursor} {l : Lists} (m : Going write o ds vs ps l0 i g l) where
-  pub going_inside : (cs : List Float) → Paired vs cs → Inside g cs
-  going_inside cs q = pass_inside vs ps i g m.done m.passing cs q
-
   module _ (h : i < length vs) where
     xs : List (Run Endpoint)
     xs = ended_of g (get_or vs i 0) ps

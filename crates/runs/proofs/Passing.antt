@@ -99,6 +99,3 @@ module _ (vs : List ℕ) (ps : List Endpoint) (i : ℕ) (g : Cursor) (done : Lis
   pub pass_all : length vs ≤ i → done ≡ runs_from 0 vs ps
   unfolding runs_from
   pass_all h = let e : drop i vs ≡ [] = drop_of_length-le vs h in sym (append-nil done) ∙ rw e at p.split
-
-  pub pass_inside : (cs : List Float) → Paired vs cs → Inside g cs
-  pass_inside cs q = record { end = omega (arith, p.points, q.points); few = q.few }

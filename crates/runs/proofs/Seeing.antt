@@ -94,9 +94,6 @@ module _ {o : Stroke} {ds : List Float} {k : ℕ} {vs : List ℕ} {ps : List End
   pub going : Going false o ds vs ps l0 i g l
   going = record { done = m.done; passing = m.passing; puts = m.puts }
 
-  pub ended_below : s.ended ≤ i
-  ended_below = rw m.seen m.few
-
   pub seeing_turn : (h : i < length vs) {q : Place} {l1 : Lists} → Passes false g.place (piece_of o ds g.place (ended_of g (get_or vs i 0) ps)) l l1 q
       → Seeing o ds k vs ps l0 (i + 1) (moved_of g (get_or vs i 0) q) (noted_of s k (get_or vs i 0) q.vertices) l1
   seeing_turn h {q} e =

@@ -1,5 +1,5 @@
 -- Where a run's kept points end and its second stands, if it is cut. Assumes nothing.
-use Rattle.std.specs.Prelude.{ℕ, ◌≤◌, ◌≡◌, Bool, true, false, List, Float, length, take}
+use Rattle.std.specs.Prelude.{ℕ, ◌≤◌, ◌≡◌, Bool, false, List, Float, length, take, Option, is_some, IfSome}
 use Rattle.kept.specs.Kept.{kept_points}
 use Rattle.kept.specs.Looks.{run_from}
 use Rattle.kept.specs.Points.{endpoints_of}
@@ -21,6 +21,6 @@ module _ (limit : Float) (p : List Float) (first : ℕ) (closed : Bool) where
     pub within : Within (take s.to p) first s.i
     pub kept : kept_points limit closed (endpoints_of first p) ≡ run_from limit (take s.to p) first s.i
 
-  pub record Seconds (ds : List Float) (s : Second) : Type 0 where
-    pub cut : s.cut ≡ is_cut ds (kept_points limit closed (endpoints_of first p))
-    pub here : s.cut ≡ true → Cut s
+  pub record Seconds (ds : List Float) (s : Option Second) : Type 0 where
+    pub cut : is_some s ≡ is_cut ds (kept_points limit closed (endpoints_of first p))
+    pub here : IfSome s Cut

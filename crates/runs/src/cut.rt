@@ -68,19 +68,7 @@ pub fn draw_cut(
     match second_of(o.near, p, at.endpoint, closed, ds) {
         Some(Second { to, i }) => {
             let r = round_of(o);
-            draw_dashes(
-                v,
-                src,
-                t,
-                pass,
-                r,
-                &p[..to],
-                at,
-                i,
-                closed,
-                ds,
-                o.offset,
-            )
+            draw_dashes(v, src, t, pass, r, &p[..to], at, i, closed, ds, o.offset)
         }
         None => draw_run(v, src, t, pass, p, at, closed),
     }

@@ -102,9 +102,6 @@ module _ (closed : Bool) (o : Stroke) (r : Round) (base : VertexId) (kept : List
     none : base.0 + n + 0 ≡ base.0 + n
     none = omega arith
 
-    pub few_behind : {l1 l2 : Lists} {k : Place} → WeftPasses write (from arcs) weft l1 l2 k → n + k.vertices < id_limit
-    few_behind f = omega (arith, ap (λ (k : Place). k.vertices) (rw (ea, none) at f).place, h.fits.numbers)
-
     module _ (b : ℕ) (eb : b ≡ cond write n 0) where
       abbrev part : Lists
       part = lent (mid_of (5 * b) (length v - 5 * b) v) (mid_of b (length s - b) s) t

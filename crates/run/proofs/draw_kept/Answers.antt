@@ -1,29 +1,22 @@
 -- `run::draw_kept` meets its contract. Assumes nothing.
 use mathlib.Core.Path.{refl}
-use native.Mathlib.Omega.{arith}
 use Rattle.run.proofs.Whole.{alone_shape, far_shape, fits_as, draws_as}
 use Rattle.run.proofs.draw_kept.Goals as goal
 
-pub first_far-i-requires : goal.first_far-i-requires
-first_far-i-requires c = c.requires.in_bounds
-
-pub endpoint_at-alone-requires : goal.endpoint_at-alone-requires
-endpoint_at-alone-requires c = omega (arith, c.requires.in_bounds)
-
-pub draw_alone-requires : goal.draw_alone-requires
-draw_alone-requires c =
+pub draw_alone-requires-clause-draw_fits : goal.draw_alone-requires-clause-draw_fits
+draw_alone-requires-clause-draw_fits c =
     let alone = alone_shape c.args.pass.stroke _ c.requires.in_bounds.0 c.first_far-i.ensures _ c.if-p-i.true c.endpoint_at-alone.ensures in
-    record { id_lt_id_limit = rw c.endpoint_at-alone.ensures (omega (arith, c.requires.in_bounds)); draw_fits = fits_as c.args.pass refl alone c.requires.draw_fits }
+    fits_as c.args.pass refl alone c.requires.draw_fits
 
 pub returns-then-p-i : goal.returns-then-p-i
 returns-then-p-i c =
     let alone = alone_shape c.args.pass.stroke _ c.requires.in_bounds.0 c.first_far-i.ensures _ c.if-p-i.true c.endpoint_at-alone.ensures in
     draws_as c.args.pass refl alone c.draw_alone.ensures
 
-pub draw_strip-requires : goal.draw_strip-requires
-draw_strip-requires c =
+pub draw_strip-requires-clause-draw_fits : goal.draw_strip-requires-clause-draw_fits
+draw_strip-requires-clause-draw_fits c =
     let far = far_shape c.args.pass.stroke c.args.ends.lines c.requires.in_bounds.0 c.first_far-i.ensures c.args.ends.closed c.if-p-i.false in
-    record { within = omega (arith, c.if-p-i.false, c.requires.in_bounds); draw_fits = fits_as c.args.pass refl far c.requires.draw_fits }
+    fits_as c.args.pass refl far c.requires.draw_fits
 
 pub returns : goal.returns
 returns c =

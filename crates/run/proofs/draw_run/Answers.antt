@@ -1,21 +1,16 @@
 -- `run::draw_run` meets its contract. The plan: a closed run's shape is that of the part that `kept_end` leaves, told once (`ended`); an open run's is that of all its points; `draw_kept` draws either. Assumes nothing.
 use native.Mathlib.Omega.{arith}
-use Prim.Native.Nat.{◌*◌, ◌/◌, ◌≤◌}
+use Prim.Native.Nat.{◌*◌, ◌/◌}
 use mathlib.Core.Bool.{false}
-use mathlib.Core.Path.{◌≡◌, refl, sym}
+use mathlib.Core.Path.{◌≡◌, refl}
 use lib.Dec.{ltb}
 use lib.ListN.{length, take}
-use lib.Seq.{length-take-le}
 use Rattle.kept.specs.Kept.{kept_points}
 use Rattle.kept.specs.Points.{endpoints_of}
 use Rattle.run.specs.Run.{shape_of_kept, shape_of}
 use Rattle.run.proofs.Whole.{no_points, nothing_drawn, open_shape, closed_shape, fits_as, draws_as}
 use Rattle.run.proofs.draw_run.Goals.{After-kept_end-to}
 use Rattle.run.proofs.draw_run.Goals as goal
-
--- what is left of a closed run's points is a part of them
-part : (c : After-kept_end-to) → 2 * c.kept_end-to.result ≤ length c.args.p.now
-part c = omega (arith, c.kept_end-to.ensures.within)
 
 ended : (c : After-kept_end-to) → let a = c.args in shape_of a.pass.stroke a.closed (endpoints_of a.at.endpoint.0 a.p.now)
     ≡ shape_of_kept a.pass.stroke a.closed (ltb 1 (length a.p.now / 2)) (kept_points a.pass.stroke.near false (endpoints_of a.at.endpoint.0 (take (2 * c.kept_end-to.result) a.p.now)))
@@ -26,28 +21,17 @@ returns-then-p-lt2 c =
     let a = c.args in
     draws_as a.pass refl (no_points a.pass.stroke _ _ _ c.if-p-lt2.true) (nothing_drawn a.pass.stroke _ _)
 
-pub kept_end-to-requires : goal.kept_end-to-requires
-kept_end-to-requires c = omega (arith, c.if-p-lt2.false, c.requires.p_bound)
-
-pub overflow_mul-to : goal.overflow_mul-to
-overflow_mul-to c = omega (arith, c.kept_end-to.ensures.within, c.requires.p_bound)
-
-pub slice_bounds-draw_kept-end : goal.slice_bounds-draw_kept-end
-slice_bounds-draw_kept-end c =
-    sym (length-take-le (2 * c.kept_end-to.result) c.args.p.now (part (goal.at.slice_bounds-draw_kept-end c).After-kept_end-to))
-
-pub draw_kept-requires : goal.draw_kept-requires
-draw_kept-requires c =
-    let l = length-take-le (2 * c.kept_end-to.result) c.args.p.now (part (goal.at.draw_kept-requires c).After-kept_end-to) in
-    record { in_bounds = omega (arith, l, c.kept_end-to.ensures.least, c.requires.p_bound); draw_fits = fits_as c.args.pass refl (ended (goal.at.draw_kept-requires c).After-kept_end-to) c.requires.draw_fits }
+pub draw_kept-requires-clause-draw_fits : goal.draw_kept-requires-clause-draw_fits
+draw_kept-requires-clause-draw_fits c =
+    fits_as c.args.pass refl (ended (goal.at.draw_kept-requires-clause-draw_fits c).After-kept_end-to) c.requires.draw_fits
 
 pub returns-then-closed : goal.returns-then-closed
 returns-then-closed c =
     draws_as c.args.pass refl (ended (goal.at.returns-then-closed c).After-kept_end-to) c.draw_kept.ensures
 
-pub draw_kept-requires-2 : goal.draw_kept-requires-2
-draw_kept-requires-2 c =
-    record { in_bounds = omega (arith, c.if-p-lt2.false, c.requires.p_bound); draw_fits = fits_as c.args.pass refl (open_shape c.args.pass.stroke _ _ c.if-closed.false refl) c.requires.draw_fits }
+pub draw_kept-requires-2-clause-draw_fits : goal.draw_kept-requires-2-clause-draw_fits
+draw_kept-requires-2-clause-draw_fits c =
+    fits_as c.args.pass refl (open_shape c.args.pass.stroke _ _ c.if-closed.false refl) c.requires.draw_fits
 
 pub returns : goal.returns
 returns c =

@@ -5,18 +5,17 @@ use Rattle.woven.proofs.Runs.{ids, arcs_fit, drawn}
 use Rattle.run.proofs.Whole.{strip_needs, shape_fits, shape_draws, round_shallow, weave_fits, weave_draws, rounds, closed_drawn, open_drawn}
 use Rattle.run.proofs.draw_strip.Goals as goal
 
-pub pass_strip-s-requires : goal.pass_strip-s-requires
-pass_strip-s-requires c =
-    record { within = c.requires.within; strip_fits = strip_needs c.args.pass c.args.closed _ c.requires.within c.requires.draw_fits }
+pub pass_strip-s-requires-clause-strip_fits : goal.pass_strip-s-requires-clause-strip_fits
+pass_strip-s-requires-clause-strip_fits c = strip_needs c.args.pass c.args.closed _ c.requires.within c.requires.draw_fits
 
-pub weave_behind-requires : goal.weave_behind-requires
-weave_behind-requires c =
+pub weave_behind-requires-clause-woven_fits : goal.weave_behind-requires-clause-woven_fits
+weave_behind-requires-clause-woven_fits c =
     let a = c.args in
     let o = a.pass.stroke in
     let kept = run_from o.near a.p.now a.at.endpoint.0 a.i in
     let e = c.round_of-r.ensures in
     let f = weave_fits a.pass a.closed e _ _ _ (shape_fits a.pass refl (sym c.is_round.ensures ∙ c.if-is_round.true) kept c.requires.draw_fits) in
-    record { within = c.requires.within; woven_fits = arcs_fit a.closed o _ _ kept f (ids o.near c.requires.within) c.pass_strip-s.ensures (round_shallow o e) }
+    arcs_fit a.closed o _ _ kept f (ids o.near c.requires.within) c.pass_strip-s.ensures (round_shallow o e)
 
 pub returns-then-is_round : goal.returns-then-is_round
 returns-then-is_round c =

@@ -1,5 +1,4 @@
 -- `runs::draw_verb` meets its contract. Assumes nothing.
-use mathlib.Core.Path.{sym, ◌∙◌}
 use Rattle.pieces.proofs.Pieces.{puts_none}
 use Rattle.cuts.specs.Runs.{cut_runs}
 use Rattle.runs.specs.Cursor.{ended_of}
@@ -9,10 +8,3 @@ use Rattle.runs.proofs.draw_verb.Goals as goal
 pub returns-then-names_point : goal.returns-then-names_point
 unfolding ended_of cut_runs mesh_vertices mesh_triangles
 returns-then-names_point c = rw (← c.names_point.ensures, c.if-names_point.true) puts_none
-
-pub draw_ended-requires : goal.draw_ended-requires
-draw_ended-requires c =
-    record { inside = c.requires.inside; cuts_few = c.requires.cuts_few; fits = c.requires.fits; verb_value = sym c.names_point.ensures ∙ c.if-names_point.false }
-
-pub returns : goal.returns
-returns c = c.draw_ended.ensures

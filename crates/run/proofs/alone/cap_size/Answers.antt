@@ -10,6 +10,3 @@ overflow_shl-result c = omega (arith, c.level_of.ensures, level_few c.args.o)
 
 pub returns-then-rounds_caps : goal.returns-then-rounds_caps
 returns-then-rounds_caps c = rw (c.level_of.ensures, sym c.rounds_caps.ensures ∙ c.if-rounds_caps.true) (cap_shifted c.args.o)
-
-pub returns : goal.returns
-returns c = rw (sym c.rounds_caps.ensures ∙ c.if-rounds_caps.false)

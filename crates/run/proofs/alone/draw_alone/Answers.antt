@@ -7,9 +7,9 @@ use Rattle.run.proofs.alone.draw_alone.Goals as goal
 pub overflow_sub-result : goal.overflow_sub-result
 overflow_sub-result c = omega (arith, c.cap_size-n.ensures, cap_some c.args.pass.stroke)
 
-pub lay_empty_cap-requires : goal.lay_empty_cap-requires
-lay_empty_cap-requires c =
-    record { id_lt_id_limit = c.requires.id_lt_id_limit; draw_fits = cap_fits c.args.pass.stroke _ _ c.args.p (rw (sym c.draws_cap.ensures ∙ c.if-draws_cap.true) at c.requires.draw_fits) }
+pub lay_empty_cap-requires-clause-draw_fits : goal.lay_empty_cap-requires-clause-draw_fits
+lay_empty_cap-requires-clause-draw_fits c =
+    cap_fits c.args.pass.stroke _ _ c.args.p (rw (sym c.draws_cap.ensures ∙ c.if-draws_cap.true) at c.requires.draw_fits)
 
 pub returns-then-draws_cap : goal.returns-then-draws_cap
 returns-then-draws_cap c =
