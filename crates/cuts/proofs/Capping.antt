@@ -1,5 +1,5 @@
 -- A count that stops at one more than is accepted: a sum of such counts is the sum's, and whether it is over the limit is decided. Assumes nothing.
-use Prim.Native.Nat.{ℕ, ◌+◌, ◌≤◌, ◌<◌}
+use Prim.Native.Nat.{ℕ, min, ◌+◌, ◌≤◌, ◌<◌}
 use mathlib.Core.Path.{◌≡◌, sym, ap, ◌∙◌}
 use native.Mathlib.Decide.{dec_le}
 use native.Mathlib.Nat.{lt_of_not-le}
@@ -16,6 +16,13 @@ capped_few n h = rw (le-leb n cut_limit h)
 pub capped_many : (n : ℕ) → cut_limit < n → capped_of n ≡ cuts_enough
 unfolding capped_of
 capped_many n h = rw (lt-leb n cut_limit h)
+
+pub capped_min : (n : ℕ) → min n cuts_enough ≡ capped_of n
+capped_min n = go (dec_le n cut_limit)
+  where
+    go : Dec (n ≤ cut_limit) → min n cuts_enough ≡ capped_of n
+    go (yes h) = omega (arith, capped_few n h)
+    go (no f) = omega (arith, lt_of_not-le f, capped_many n (lt_of_not-le f))
 
 pub capped_most : (n : ℕ) → capped_of n ≤ cuts_enough
 capped_most n = go (dec_le n cut_limit)

@@ -14,10 +14,7 @@ pub const CUT_LIMIT: usize = 65536;
 fn capped(n: usize) -> usize
     ensures { result ≡ capped_of n }
 {
-    if n > CUT_LIMIT {
-        return CUT_LIMIT + 1;
-    }
-    n
+    n.min(CUT_LIMIT + 1)
 }
 
 // Past the cuts on the edge that t stands on. Once there are too many, nothing more is counted.
@@ -25,15 +22,13 @@ pub fn count_on(ds: &[f32], t: Passed) -> Passed
     requires { (0 < length ds.now) × Bounded t }
     ensures { OnEdge ds.now t result }
 {
-    let n = t.count;
-    if n > CUT_LIMIT {
+    if t.count > CUT_LIMIT {
         return t;
     }
     let e = count_edge(ds, t.spot);
-    let s = e.spot;
     Passed {
-        spot: s,
-        count: capped(n + e.count),
+        spot: e.spot,
+        count: capped(t.count + e.count),
     }
 }
 
@@ -42,12 +37,11 @@ pub fn count_next(ds: &[f32], t: Passed, p: Endpoint) -> Passed
     requires { (0 < length ds.now) × Bounded t }
     ensures { OnEdge ds.now (turned_at t p) result }
 {
-    let s = turned(t.spot, p);
     count_on(
         ds,
         Passed {
-            spot: s,
-            count: t.count,
+            spot: turned(t.spot, p),
+            ..t
         },
     )
 }

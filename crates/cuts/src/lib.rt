@@ -19,13 +19,13 @@ use crate::edge::CUT_LIMIT;
 use crate::run_cuts::count_run;
 use dashes::pattern::{Beat, first_cut, worn};
 use endpoint::{EndpointId, endpoint_after};
+use path::check_path;
 use path::verbs::{END_CLOSED, names_point};
-use path::{Checked, check_path};
 use refusals::Refusal;
 
 // How far a pass over the verbs has come: the number of the current run's first endpoint, how many of its points are named, and the
 // cuts of the runs before it.
-#[derive(Drop)]
+#[derive(Clone, Copy)]
 struct Progress {
     first: EndpointId,
     size: usize,
@@ -37,28 +37,24 @@ fn count_verb(ds: &[f32], limit: f32, b: Beat, coords: &[f32], g: Progress, verb
     requires { (0 < length ds.now) × (b.index ≤ wear_limit) × Inside g coords.now }
     ensures { VerbCounted limit ds.now b coords.now g verb result }
 {
-    let first = g.first;
     if names_point(verb) {
         return Progress {
-            first,
             size: g.size + 1,
-            cuts: g.cuts,
+            ..g
         };
     }
-    let i = first.0 as usize;
-    let from = 2 * i;
-    let to = 2 * (i + g.size);
+    let i = g.first.0 as usize;
     let cuts = count_run(
         ds,
         limit,
         b,
-        &coords[from..to],
-        first,
+        &coords[2 * i..2 * (i + g.size)],
+        g.first,
         verb == END_CLOSED,
         g.cuts,
     );
     Progress {
-        first: endpoint_after(first, g.size),
+        first: endpoint_after(g.first, g.size),
         size: 0,
         cuts,
     }
@@ -76,11 +72,8 @@ pub fn count_cuts(ds: &[f32], offset: f32, limit: f32, verbs: &[u8], coords: &[f
         size: 0,
         cuts: 0,
     };
-    let mut i: usize = 0;
-    while i < verbs.len() {
-        let verb = verbs[i];
-        g = count_verb(ds, limit, b, coords, g, verb);
-        i += 1;
+    for verb in verbs {
+        g = count_verb(ds, limit, b, coords, g, *verb);
     }
     g.cuts
 }
@@ -90,23 +83,22 @@ pub fn has_too_many_cuts(ds: &[f32], offset: f32, limit: f32, verbs: &[u8], coor
     requires { (length coords.now ≡ 2 * point_count verbs.now) × (length coords.now < id_limit) }
     ensures { result ≡ has_too_many_cuts limit ds.now offset verbs.now coords.now }
 {
-    if ds.len() == 0 {
-        return false;
-    }
-    count_cuts(ds, offset, limit, verbs, coords) > CUT_LIMIT
+    !ds.is_empty() && count_cuts(ds, offset, limit, verbs, coords) > CUT_LIMIT
 }
 
 // Refusals 2 to 4, then 26.
-pub fn check_cut_path(verbs: &[u8], coords: &[f32], ds: &[f32], offset: f32, limit: f32) -> Checked
+pub fn check_cut_path(
+    verbs: &[u8],
+    coords: &[f32],
+    ds: &[f32],
+    offset: f32,
+    limit: f32,
+) -> Result<(), Refusal>
     ensures { check_answer_of result ≡ cut_checked_of limit ds.now offset verbs.now coords.now }
 {
-    match check_path(verbs, coords) {
-        Checked::Accepted => {
-            if has_too_many_cuts(ds, offset, limit, verbs, coords) {
-                return Checked::Refused(Refusal::TooManyCuts);
-            }
-            Checked::Accepted
-        }
-        Checked::Refused(r) => Checked::Refused(r),
+    check_path(verbs, coords)?;
+    if has_too_many_cuts(ds, offset, limit, verbs, coords) {
+        return Err(Refusal::TooManyCuts);
     }
+    Ok(())
 }

@@ -19,26 +19,26 @@ fn visit(ds: &[f32], limit: f32, t: Passed, p: Endpoint) -> Passed
     requires { (0 < length ds.now) × Bounded t }
     ensures { Visited limit ds.now t p result }
 {
-    let s = t.spot;
-    let to = s.to;
-    if is_near(limit, to.position, p.position) {
+    if is_near(limit, t.spot.to.position, p.position) {
         return t;
     }
     count_next(ds, t, p)
 }
 
 // The points from the one at i on.
-fn count_points(ds: &[f32], limit: f32, p: &[f32], first: EndpointId, i: usize, t: Passed) -> Passed
+fn count_points(
+    ds: &[f32],
+    limit: f32,
+    p: &[f32],
+    first: EndpointId,
+    i: usize,
+    mut t: Passed,
+) -> Passed
     requires { (0 < length ds.now) × Bounded t × (2 * i ≤ length p.now) × (first.0 + length p.now < id_limit) }
     ensures { PointsCounted limit ds.now p.now first.0 i t result }
 {
-    let end = p.len() / 2;
-    let mut t = t;
-    let mut j = i;
-    while j < end {
-        let c = endpoint_at(p, first, j);
-        t = visit(ds, limit, t, c);
-        j += 1;
+    for j in i..p.len() / 2 {
+        t = visit(ds, limit, t, endpoint_at(p, first, j));
     }
     t
 }
@@ -62,12 +62,13 @@ fn count_kept(
     }
     let p0 = endpoint_at(p, first, 0);
     let p1 = endpoint_at(p, first, i);
-    let s = spot_of(p0, 0.0, p1, b);
-    let e = count_on(ds, Passed { spot: s, count: n });
-    let t = count_points(ds, limit, p, first, i + 1, e);
+    let start = Passed {
+        spot: spot_of(p0, 0.0, p1, b),
+        count: n,
+    };
+    let t = count_points(ds, limit, p, first, i + 1, count_on(ds, start));
     if closed {
-        let r = count_next(ds, t, p0);
-        return r.count;
+        return count_next(ds, t, p0).count;
     }
     t.count
 }

@@ -1,6 +1,5 @@
 -- `cuts::count_cuts` meets its contract. The plan: the loop's invariant is Passing's `Going`, from its start by one verb a turn to the end of the verbs. Assumes nothing.
 use mathlib.Core.Path.{◌≡◌}
-use native.Mathlib.Omega.{arith}
 use Rattle.dashes.specs.Pattern.{worn_of, first_cut}
 use Rattle.cuts.proofs.Passing.{first_index, going_none, going_inside, going_one, going_all}
 use Rattle.cuts.proofs.count_cuts.Goals.{After-first_cut-b}
@@ -16,19 +15,16 @@ worn-requires c = c.requires.ds_nonzero
 pub first_cut-b-requires : goal.first_cut-b-requires
 first_cut-b-requires c = c.requires.ds_nonzero
 
-pub loop-i-init : goal.loop-i-init
-loop-i-init c = going_none _ _ _ _ _
+pub loop-verb-init : goal.loop-verb-init
+loop-verb-init c = going_none _ _ _ _ _
 
 pub count_verb-g-requires : goal.count_verb-g-requires
 count_verb-g-requires c =
     let begins = (goal.at.count_verb-g-requires c).After-first_cut-b in
-    (c.requires.ds_nonzero, rw (cut begins) (first_index _ _), going_inside _ _ _ _ _ _ _ c.loop-i.invariant c.requires.coords_len.0 c.requires.coords_len.1)
+    (c.requires.ds_nonzero, rw (cut begins) (first_index _ _), going_inside _ _ _ _ _ _ _ c.loop-verb.invariant c.requires.coords_len.0 c.requires.coords_len.1)
 
-pub loop-i-smaller : goal.loop-i-smaller
-loop-i-smaller c = omega (arith, c.loop-i-test.true)
-
-pub loop-i-preserved : goal.loop-i-preserved
-loop-i-preserved c = going_one _ _ _ _ _ _ _ c.loop-i.invariant _ c.loop-i-test.true c.count_verb-g.ensures
+pub loop-verb-preserved : goal.loop-verb-preserved
+loop-verb-preserved c = going_one _ _ _ _ _ _ _ c.loop-verb.invariant _ c.loop-verb-test.true c.count_verb-g.ensures
 
 pub returns : goal.returns
-returns c = rw (cut (goal.at.returns c).After-first_cut-b) at (going_all _ _ _ _ _ _ _ c.loop-i.invariant c.loop-i-test.false)
+returns c = rw (cut (goal.at.returns c).After-first_cut-b) at (going_all _ _ _ _ _ _ _ c.loop-verb.invariant c.loop-verb-test.false)

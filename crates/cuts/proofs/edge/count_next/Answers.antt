@@ -4,7 +4,7 @@ use Rattle.cuts.proofs.edge.count_next.Goals as goal
 
 pub count_on-requires : goal.count_on-requires
 count_on-requires c =
-    (c.requires.0, rw c.turned-s.ensures (turned_bounded c.args.ds.now c.args.t c.requires.1 c.args.p))
+    (c.requires.0, rw c.turned.ensures (turned_bounded c.args.ds.now c.args.t c.requires.1 c.args.p))
 
 pub returns : goal.returns
-returns c = rw c.turned-s.ensures at c.count_on.ensures
+returns c = rw c.turned.ensures at c.count_on.ensures

@@ -26,9 +26,9 @@ endpoint_at-p0-requires c = let pre = c.requires in (omega (arith, pre.1), pre.2
 pub endpoint_at-p1-requires : goal.endpoint_at-p1-requires
 endpoint_at-p1-requires c = let pre = c.requires in (omega (arith, c.if-p-i.false), pre.2)
 
-pub count_on-e-requires : goal.count_on-e-requires
-count_on-e-requires c =
-    (c.requires.0.some, rw c.spot_of-s.ensures (start_bounded c.args.limit c.args.ds.now c.args.b c.args.n c.requires.0 _ _))
+pub count_on-requires : goal.count_on-requires
+count_on-requires c =
+    (c.requires.0.some, rw c.spot_of.ensures (start_bounded c.args.limit c.args.ds.now c.args.b c.args.n c.requires.0 _ _))
 
 pub overflow_add-i : goal.overflow_add-i
 overflow_add-i c = let pre = c.requires in omega (arith, c.if-p-i.false, pre.2)
@@ -36,10 +36,10 @@ overflow_add-i c = let pre = c.requires in omega (arith, c.if-p-i.false, pre.2)
 pub count_points-t-requires : goal.count_points-t-requires
 count_points-t-requires c =
     let pre = c.requires in
-    (pre.0.some, c.count_on-e.ensures.bounded, omega (arith, c.if-p-i.false), pre.2)
+    (pre.0.some, c.count_on.ensures.bounded, omega (arith, c.if-p-i.false), pre.2)
 
-pub count_next-r-requires : goal.count_next-r-requires
-count_next-r-requires c =
+pub count_next-requires : goal.count_next-requires
+count_next-requires c =
     let pre = c.requires in
     (pre.0.some, c.count_points-t.ensures.bounded)
 
@@ -48,12 +48,12 @@ through : (c : After-count_points-t) (closed : Bool) → let a = c.args in let p
     ≡ capped_of (a.n + kept_cuts closed a.ds.now a.b (kept_points a.limit false (endpoints_of a.first.0 a.p.now)))
 through c closed =
     run_through _ _ _ _ c.requires.0 closed _ _ _ c.requires.1 c.first_far-i.ensures c.if-p-i.false _ _
-    (rw (c.spot_of-s.ensures, c.endpoint_at-p1.ensures, c.endpoint_at-p0.ensures) at c.count_on-e.ensures) c.count_points-t.ensures
+    (rw (c.spot_of.ensures, c.endpoint_at-p1.ensures, c.endpoint_at-p0.ensures) at c.count_on.ensures) c.count_points-t.ensures
 
 pub returns-then-closed : goal.returns-then-closed
 returns-then-closed c =
     rw c.if-closed.true
-    (all_closed _ _ _ _ (rw c.endpoint_at-p0.ensures at c.count_next-r.ensures) ∙ through (goal.at.returns-then-closed c).After-count_points-t true)
+    (all_closed _ _ _ _ (rw c.endpoint_at-p0.ensures at c.count_next.ensures) ∙ through (goal.at.returns-then-closed c).After-count_points-t true)
 
 pub returns : goal.returns
 returns c = rw c.if-closed.false (all_open _ _ c.count_points-t.ensures.bounded ∙ through (goal.at.returns c).After-count_points-t false)
