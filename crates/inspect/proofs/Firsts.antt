@@ -1,10 +1,13 @@
 -- Laws of `first` and `some`. Assumes nothing.
 use Prim.Native.Nat.{ℕ, zero, suc, ◌+◌, ◌-◌, ◌≤◌, ◌<◌}
-use mathlib.Core.Path.{◌≡◌, refl, ap}
+use mathlib.Core.Path.{◌≡◌, refl, ap, sym, ◌∙◌}
 use mathlib.Core.Bool.{Bool, true, false, cond}
 use native.Mathlib.Omega.{arith}
 use native.Mathlib.Decide.{dec_le}
 use native.Mathlib.Numerals.{add-one}
+use Rattle.std.specs.Prelude.{Option, MatchOption, find}
+use Rattle.std.specs.Prelude as std
+use Rattle.std.specs.List.{range_with_len}
 use Rattle.inspect.specs.First.{first, some}
 
 -- the test is false of every number below n
@@ -55,25 +58,71 @@ first_at test (suc n) h = go (test 0) refl h (λ l. first_at (λ k. test (suc k)
   go true e h later = e
   go false e h later = later (omega arith)
 
--- `first` looks at a test only below its bound
-pub first_same : (p q : ℕ → Bool) (n : ℕ) → ((k : ℕ) → k < n → p k ≡ q k) → first p n ≡ first q n
-unfolding first
-first_same p q zero same = refl
-first_same p q (suc n) same = rw (same 0 (omega arith), first_same (λ k. p (suc k)) (λ k. q (suc k)) n (λ k l. same (suc k) (omega arith)))
+-- ---- std's searches: their result is `first`'s, where that is below the bound
+abbrev pub Place : (ℕ → Bool) → ℕ → Option ℕ → Type 0
+Place test n r = MatchOption r (n ≤ first test n) (λ k. (k ≡ first test n) × (k < n))
 
--- ---- a search in parts: none before `base`, and of the n from there on the k-th is the first
-module _ (test : ℕ → Bool) (base n k : ℕ) (before : Clear test base) (e : k ≡ first (λ j. test (base + j)) n) where
-  in_part : Clear test (base + k)
-  in_part j l = go (dec_le base j) where
+module _ (test : ℕ → Bool) where
+  where_from : (i n : ℕ) (r : Option ℕ) → Clear test i → r ≡ find test (range_with_len i n) → MatchOption r (Clear test (i + n)) (λ k. (k < i + n) × (Clear test k × (test k ≡ true)))
+  where_from i zero r before e = let z : i + 0 ≡ i = omega arith in rw (e, z) before
+  where_from i (suc n) r before e = go (test i) refl e (λ f. where_from (i + 1) n r (clear_more test i before f))
+    where
+      Found : ℕ → Type 0
+      Found m = MatchOption r (Clear test m) (λ k. (k < m) × (Clear test k × (test k ≡ true)))
+
+      go : (b : Bool) → test i ≡ b → r ≡ cond b (std.Some i) (find test (range_with_len (i + 1) n)) → (test i ≡ false → r ≡ find test (range_with_len (i + 1) n) → Found (i + 1 + n)) → Found (i + suc n)
+      go true f e later = rw e (omega arith, (before, f))
+      go false f e later = let m : i + 1 + n ≡ i + suc n = omega arith in rw m at (later f e)
+
+  pub find_place : (n : ℕ) (r : Option ℕ) → r ≡ find test (range_with_len 0 n) → Place test n r
+  find_place n r e = go r (where_from 0 n r (clear_none test) e) where
+    z : 0 + n ≡ n
+    z = omega arith
+
+    go : (r : Option ℕ) → MatchOption r (Clear test (0 + n)) (λ k. (k < 0 + n) × (Clear test k × (test k ≡ true))) → Place test n r
+    go std.None h = let e : n ≡ first test n = first_none test n (rw z at h) in omega arith
+    go (std.Some k) h = let l : k < n = omega (arith, h.0) in (first_found test n k l h.1.0 h.1.1, l)
+
+  -- and the other way round
+  pub find_first : (n m : ℕ) → m ≡ first test n → m < n → std.Some m ≡ find test (range_with_len 0 n)
+  find_first n m e l = go (find test (range_with_len 0 n)) (find_place n (find test (range_with_len 0 n)) refl) where
+    go : (r : Option ℕ) → Place test n r → std.Some m ≡ r
+    go std.None h = absurd (omega arith)
+    go (std.Some k) h = ap (λ (j : ℕ). std.Some j) (e ∙ sym h.0)
+
+  pub find_none : (n : ℕ) → Clear test n → std.None ≡ find test (range_with_len 0 n)
+  find_none n c = go (find test (range_with_len 0 n)) (find_place n (find test (range_with_len 0 n)) refl) where
+    end : n ≡ first test n
+    end = first_none test n c
+
+    go : (r : Option ℕ) → Place test n r → std.None ≡ r
+    go std.None h = refl
+    go (std.Some k) h = absurd (omega (arith, end, h.0, h.1))
+
+-- a search looks at a test only at its numbers
+pub find_same : (p q : ℕ → Bool) (i n : ℕ) → ((k : ℕ) → k < i + n → p k ≡ q k) → find p (range_with_len i n) ≡ find q (range_with_len i n)
+find_same p q i zero same = refl
+find_same p q i (suc n) same = rw (same i (omega arith), find_same p q (i + 1) n (λ k l. same k (omega arith)))
+
+-- ---- a search in parts: none before `base`, and then std's search of the n from there on
+module _ (test : ℕ → Bool) (base n : ℕ) (before : Clear test base) where
+  in_part : (k : ℕ) → k ≡ first (λ j. test (base + j)) n → Clear test (base + k)
+  in_part k e j l = go (dec_le base j) where
     go : Dec (base ≤ j) → test j ≡ false
     go (yes g) = let m : j ≡ base + (j - base) = omega arith in rw m (first_clear (λ j. test (base + j)) n (j - base) (omega arith))
     go (no g) = before j (omega arith)
 
-  pub clear_part : n ≤ k → Clear test (base + n)
-  clear_part h j l = in_part j (omega arith)
+  pub clear_part : std.None ≡ find (λ j. test (base + j)) (range_with_len 0 n) → Clear test (base + n)
+  clear_part e j l =
+      let h : n ≤ first (λ j. test (base + j)) n = find_place (λ j. test (base + j)) n std.None e in
+      in_part (first (λ j. test (base + j)) n) refl j (omega arith)
 
-  pub first_part : (count : ℕ) → base + n ≤ count → k < n → base + k ≡ first test count
-  first_part count high h = first_found test count (base + k) (omega arith) in_part (rw e (first_at (λ j. test (base + j)) n (rw e at h)))
+  pub first_part : (k count : ℕ) → base + n ≤ count → std.Some k ≡ find (λ j. test (base + j)) (range_with_len 0 n) → (k < n) × (std.Some (base + k) ≡ find test (range_with_len 0 count))
+  first_part k count high e =
+      let h = find_place (λ j. test (base + j)) n (std.Some k) e in
+      let l : base + k < count = omega (arith, h.1) in
+      let at : test (base + k) ≡ true = rw h.0 (first_at (λ j. test (base + j)) n (rw h.0 at h.1)) in
+      (h.1, find_first test count (base + k) (first_found test count (base + k) l (in_part k h.0) at) l)
 
 -- ---- `some`
 pub some_more : (test : ℕ → Bool) (n : ℕ) → some test (n + 1) ≡ cond (test n) true (some test n)

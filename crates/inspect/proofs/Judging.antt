@@ -1,20 +1,25 @@
 -- The answer, fault by fault. Assumes nothing.
-use Prim.Native.Nat.{ℕ, zero, suc, ◌-◌, ◌%◌, ◌≤◌, ◌<◌}
+use Prim.Native.Nat.{ℕ, zero, suc, ◌+◌, ◌-◌, ◌%◌, ◌≤◌, ◌<◌}
 use mathlib.Core.Path.{◌≡◌, refl, sym, ap, ◌∙◌}
 use mathlib.Core.Bool.{Bool, true, false, not, ◌&&◌, cond}
 use mathlib.Core.List.{List}
 use native.Mathlib.Omega.{arith}
-use lib.Dec.{ltb, eqb}
-use lib.ListN.{length, get_or}
-use borrow.Author.Tests.{eq-eqb, ne_eqb, lt-ltb, le-ltb, le-leb, lt-leb, eqb-true, ltb-false}
+use lib.Dec.{leb, ltb, eqb}
+use lib.ListN.{length}
+use borrow.Author.Tests.{eq-eqb, ne_eqb, lt-ltb, le-ltb, eqb-true, ltb-true, ltb-false}
+use Rattle.std.specs.Prelude.{Option, Some, None, position}
+use Rattle.std.specs.List.{position_or_len}
+use Rattle.std.proofs.lemmas.List.Recursion.{is_position_or_len}
 use Rattle.refusals.specs.Numbers.{Meaning, number_of, verdict, list_length, number_too_large, two_alike, vertex_unnamed}
 use Rattle.refusals.specs.declared.Verdict.{Verdict}
 use Rattle.triangles.specs.Facts.{shared}
 use Rattle.triangles.specs.Tri.{Tri}
-use Rattle.inspect.specs.Answer.{sound, first_fault, faults_then}
+use Rattle.inspect.specs.Answer.{sound, fault_of, first_fault, faults_then}
 use Rattle.inspect.specs.Faults.{triangle_count, triangle_at, too_large, alike, unnamed, touches, loose}
 use Rattle.inspect.specs.First.{first, some}
-use Rattle.inspect.proofs.Firsts.{Clear, first_none, first_clear, some_at, some_clear}
+use Rattle.inspect.specs.declared.answer.Fault.{Fault}
+use Rattle.inspect.specs.declared.answer.Fault.TheVariants.{Length, TooLarge, Alike, Unnamed, NotAttached}
+use Rattle.inspect.proofs.Firsts.{Clear, Place, first_none, first_clear, some_at, some_clear}
 
 -- ---- one test: it found its place, or none
 module _ (fault : Meaning) (test : ℕ → Bool) (n : ℕ) where
@@ -120,15 +125,26 @@ module _ (count : ℕ) (l : List ℕ) where
   pub sound_then : (next r : Verdict) → r ≡ faults_then count l sound → r.number ≡ 0 → next ≡ faults_then count l next
   sound_then next r e z = sym (passed_on next (has_passed sound (sym (ap (λ (v : Verdict). v.number) e) ∙ z)))
 
--- ---- what the code's tests say of a number, and of two triangles
-pub is_large_lem : (count : ℕ) (l : List ℕ) (i r : ℕ) → r ≡ get_or l i 0 → count ≤ r → too_large count l i ≡ true
-unfolding too_large
-is_large_lem count l i r e h = rw (← e) (le-leb count r h)
+first_is_position : (count : ℕ) (l : List ℕ) → first (too_large count l) (length l) ≡ position_or_len (leb count) l
+unfolding first too_large
+first_is_position count l = is_position_or_len (λ l. first (too_large count l) (length l)) (leb count) refl
+    (λ x xs. let e : suc (first (too_large count xs) (length xs)) ≡ 1 + first (too_large count xs) (length xs) = omega arith in ap (λ (n : ℕ). cond (leb count x) 0 n) e) l
 
-pub not_large : (count : ℕ) (l : List ℕ) (i r : ℕ) → r ≡ get_or l i 0 → r < count → too_large count l i ≡ false
-unfolding too_large
-not_large count l i r e h = rw (← e) (lt-leb count r h)
+-- ---- the first number that is too large, as std finds it
+pub large_place : (count : ℕ) (l : List ℕ) (r : Option ℕ) → r ≡ position (leb count) l → Place (too_large count l) (length l) r
+large_place count l r e = go (ltb at (length l)) (ltb-true at (length l)) (ltb-false at (length l)) (rw (← same) at e)
+  where
+    at : ℕ
+    at = first (too_large count l) (length l)
 
+    same : at ≡ position_or_len (leb count) l
+    same = first_is_position count l
+
+    go : (b : Bool) → (b ≡ true → at < length l) → (b ≡ false → length l ≤ at) → r ≡ cond b (Some at) None → Place (too_large count l) (length l) r
+    go true t f e = rw e (refl, t refl)
+    go false t f e = rw e (f refl)
+
+-- ---- what the code's test says of two triangles
 pub is_touching : (l : List ℕ) (t s : ℕ) (u e : Tri) (r : ℕ) → e ≡ triangle_at l s → u ≡ triangle_at l t → r ≡ shared e u → r ≡ 2 → touches l t s ≡ true
 unfolding touches
 is_touching l t s u e r pe pu pr two = rw (← pe, ← pu, ← pr, two)
@@ -144,13 +160,21 @@ held_back l t zero h e = absurd (omega arith)
 held_back l t (suc s) h e = let n : suc s - 1 ≡ s = omega arith in rw (n, rw n at e)
 
 module _ (l : List ℕ) (t s : ℕ) where
-  pub held_here : 0 < s → s ≤ t → some (touches l t) t ≡ some (touches l t) s → touches l t (s - 1) ≡ true → true ≡ not (loose l t)
+  pub held_here : 0 < s → s ≤ t → some (touches l t) t ≡ some (touches l t) s → touches l t (s - 1) ≡ true → false ≡ loose l t
   unfolding loose
   held_here h high e two = rw (lt-ltb 0 t (omega arith), e, some_at (touches l t) s (s - 1) (omega arith) two)
 
-  pub held_none : s ≤ 0 → some (touches l t) t ≡ some (touches l t) s → eqb t 0 ≡ not (loose l t)
+  pub held_none : s ≤ 0 → some (touches l t) t ≡ some (touches l t) s → ltb 0 t ≡ loose l t
   unfolding loose
   held_none h e = rw (e, some_clear (touches l t) s (λ k g. absurd (omega arith))) (go t) where
-    go : (t : ℕ) → eqb t 0 ≡ not (ltb 0 t && true)
+    go : (t : ℕ) → ltb 0 t ≡ ltb 0 t && true
     go zero = refl
-    go (suc t) = rw (ne_eqb (suc t) 0 (λ z. omega arith), lt-ltb 0 (suc t) (omega arith))
+    go (suc t) = rw (lt-ltb 0 (suc t) (omega arith))
+
+-- ---- a fault's number is not 0
+pub is_faulty : (f : Fault) → (fault_of f).number ≡ 0 → ⊥
+is_faulty Length e = absurd (omega arith)
+is_faulty (TooLarge i) e = absurd (omega arith)
+is_faulty (Alike t) e = absurd (omega arith)
+is_faulty (Unnamed v) e = absurd (omega arith)
+is_faulty (NotAttached t) e = absurd (omega arith)

@@ -13,10 +13,12 @@ use lib.ListN.{length, get_or, set, length-set, replicate, length-replicate, get
 use lib.Pow.{pow-add, pow-lt, shl-shr, shl_exact}
 use lib.Seq.{get_or-set_same, get_or-set_other}
 use borrow.Author.Tests.{eq-eqb, ne_eqb, eqb-true, eqb-false}
+use Rattle.std.specs.Prelude.{find}
+use Rattle.std.specs.List.{range_with_len}
 use Rattle.inspect.specs.Faults.{names, unnamed}
-use Rattle.inspect.specs.First.{first, some}
+use Rattle.inspect.specs.First.{some}
 use Rattle.inspect.specs.Marks.{marked, blank, MarkedOne, Marked, unnamed_from}
-use Rattle.inspect.proofs.Firsts.{some_more, first_same}
+use Rattle.inspect.proofs.Firsts.{some_more, find_same}
 
 -- ---- one bit of a word
 own_bit : (r : ℕ) → 2 ^ r / 2 ^ r % 2 ≡ 1
@@ -101,9 +103,9 @@ pub marked_all : (base : ℕ) (l : List ℕ) (i : ℕ) (m₀ m : List ℕ) → i
 marked_all base l i m₀ m low high so = let e : length l ≡ i = omega arith in rw e so
 
 -- where no mark was there, one is missing exactly where the vertex is unnamed
-pub blank_is : (base : ℕ) (l : List ℕ) (w : ℕ) (m : List ℕ) (n : ℕ) → n ≤ 32 * w → Marked base l (length l) (replicate w 0) m → first (blank m) n ≡ first (unnamed_from base l) n
+pub blank_is : (base : ℕ) (l : List ℕ) (w : ℕ) (m : List ℕ) (n : ℕ) → n ≤ 32 * w → Marked base l (length l) (replicate w 0) m → find (blank m) (range_with_len 0 n) ≡ find (unnamed_from base l) (range_with_len 0 n)
 unfolding marked unnamed
-blank_is base l w m n h so = first_same (blank m) (unnamed_from base l) n (λ k g. at k (omega arith)) where
+blank_is base l w m n h so = find_same (blank m) (unnamed_from base l) 0 n (λ k g. at k (omega arith)) where
   none : (k : ℕ) → k < 32 * w → marked (replicate w 0) k ≡ false
   none k g = rw (get_or-replicate {A = ℕ} w (k / 32) 0 0 (omega arith), zero-div (2 ^ (k % 32)))
 
@@ -113,15 +115,11 @@ blank_is base l w m n h so = first_same (blank m) (unnamed_from base l) n (λ k 
     go true = refl
     go false = refl
 
--- ---- what `first_blank` sees
-pub is_blank_lem : (m : List ℕ) (i : ℕ) → get_or m (i / 32) 0 / 2 ^ (i % 32) % 2 ≡ 0 → blank m i ≡ true
+-- ---- what `is_blank` sees
+pub is_blank_lem : (m : List ℕ) (i : ℕ) → eqb (get_or m (i / 32) 0 / 2 ^ (i % 32) % 2) 0 ≡ blank m i
 unfolding marked
-is_blank_lem m i e = rw e
-
-pub is_marked : (m : List ℕ) (i : ℕ) → (get_or m (i / 32) 0 / 2 ^ (i % 32) % 2 ≡ 0 → ⊥) → blank m i ≡ false
-unfolding marked
-is_marked m i e = let bit = get_or m (i / 32) 0 / 2 ^ (i % 32) % 2 in ap not (eq-eqb bit 1 (one bit (mod-lt (get_or m (i / 32) 0 / 2 ^ (i % 32)) (omega arith)) e)) where
-  one : (x : ℕ) → x < 2 → (x ≡ 0 → ⊥) → x ≡ 1
-  one zero h differ = absurd (differ refl)
-  one (suc zero) h differ = refl
-  one (suc (suc x)) h differ = absurd (omega arith)
+is_blank_lem m i = bit (get_or m (i / 32) 0 / 2 ^ (i % 32) % 2) (mod-lt (get_or m (i / 32) 0 / 2 ^ (i % 32)) (omega arith)) where
+  bit : (x : ℕ) → x < 2 → eqb x 0 ≡ not (eqb x 1)
+  bit zero h = refl
+  bit (suc zero) h = refl
+  bit (suc (suc x)) h = absurd (omega arith)

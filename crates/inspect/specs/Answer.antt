@@ -1,12 +1,26 @@
 -- Both questions: "it gives the first fault in that order". Assumes nothing.
-use Rattle.std.specs.Prelude.{ℕ, Bool, cond, List, ltb, length}
+use Rattle.std.specs.Prelude.{ℕ, Bool, cond, List, Result, Ok, Err, ltb, length}
 use Rattle.refusals.specs.Numbers.{Meaning, verdict, accepted, list_length, number_too_large, two_alike, vertex_unnamed, not_attached}
 use Rattle.refusals.specs.declared.Verdict.{Verdict}
 use Rattle.inspect.specs.Faults.{triangle_count, uneven, too_large, alike, unnamed, loose}
 use Rattle.inspect.specs.First.{first}
+use Rattle.inspect.specs.declared.answer.Fault.{Fault}
+use Rattle.inspect.specs.declared.answer.Fault.TheVariants.{Length, TooLarge, Alike, Unnamed, NotAttached}
 
 abbrev pub sound : Verdict
 sound = verdict accepted 0
+
+-- the number and the place of each fault, and what a question's answer stands for
+abbrev pub fault_of : Fault → Verdict
+fault_of Length = verdict list_length 0
+fault_of (TooLarge i) = verdict number_too_large i
+fault_of (Alike t) = verdict two_alike t
+fault_of (Unnamed v) = verdict vertex_unnamed v
+fault_of (NotAttached t) = verdict not_attached t
+
+abbrev pub checked_of : Result (Unit {0}) Fault → Verdict
+checked_of (Ok u) = sound
+checked_of (Err f) = fault_of f
 
 -- the fault of that meaning at the first of n places of which the test is true; where there is none, what is asked next
 unfoldable pub first_fault : Meaning → (ℕ → Bool) → ℕ → Verdict → Verdict

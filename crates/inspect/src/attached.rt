@@ -1,37 +1,27 @@
 // Refusal 24: whether each triangle but the first has two vertices of an earlier one.
-ghost use Rattle.std.specs.Prelude.{not, ◌≡◌, ◌/◌, ◌<◌, length};
+ghost use Rattle.std.specs.Prelude.{◌≡◌, ◌/◌, ◌<◌, find, length};
+ghost use Rattle.std.specs.List.{range_with_len};
 ghost use Rattle.inspect.specs.Faults.{loose};
-ghost use Rattle.inspect.specs.First.{first};
 
 use crate::three::{shared, triangle_at};
 
-// The first triangle that no earlier one holds, or their number.
-pub(crate) fn first_loose(list: &[u32]) -> usize
-    ensures { result ≡ first (loose list.now) (length list.now / 3) }
+// The first triangle that no earlier one holds.
+pub(crate) fn first_loose(list: &[u32]) -> Option<usize>
+    ensures { result ≡ find (loose list.now) (range_with_len 0 (length list.now / 3)) }
 {
-    let n = list.len() / 3;
-    let mut t = 0;
-    while t < n {
-        if !is_held(list, t) {
-            return t;
-        }
-        t += 1;
-    }
-    t
+    (0..list.len() / 3).find(|t| is_loose(list, *t))
 }
 
 // The latest triangle is asked first: in a mesh of this library it is the one.
-fn is_held(list: &[u32], t: usize) -> bool
+fn is_loose(list: &[u32], t: usize) -> bool
     requires { t < length list.now / 3 }
-    ensures { result ≡ not (loose list.now t) }
+    ensures { result ≡ loose list.now t }
 {
     let u = triangle_at(list, t);
-    let mut s = t;
-    while s > 0 {
-        s -= 1;
+    for s in (0..t).rev() {
         if shared(triangle_at(list, s), u) == 2 {
-            return true;
+            return false;
         }
     }
-    t == 0
+    t > 0
 }

@@ -1,6 +1,7 @@
 // A checker of index lists from elsewhere, W-211: what is wrong with one first, and whether its triangles hang together.
 #![tactic(auto)]
 
+pub mod answer;
 mod attached;
 mod marks;
 mod names;
@@ -8,52 +9,39 @@ mod numbers;
 mod three;
 
 ghost use Rattle.std.specs.Prelude.{◌≡◌};
-ghost use Rattle.inspect.specs.Answer.{check_of, check_attached_of};
+ghost use Rattle.inspect.specs.Answer.{checked_of, check_of, check_attached_of};
 
-use attached::first_loose;
-use names::first_unnamed;
-use numbers::{first_alike, first_large};
-use refusals::{Meaning, Verdict};
+use crate::answer::Fault;
+use crate::attached::first_loose;
+use crate::names::first_unnamed;
+use crate::numbers::{first_alike, first_large};
 
-// 0 where the list is one of triangles over all of `count` vertices, else its first fault.
-pub fn check(count: usize, list: &[u32]) -> Verdict
-    ensures { result ≡ check_of count list.now }
+// Whether the list is one of triangles over all of `count` vertices, else its first fault.
+pub fn check(count: usize, list: &[u32]) -> Result<(), Fault>
+    ensures { checked_of result ≡ check_of count list.now }
 {
     if list.len() % 3 != 0 {
-        return verdict(Meaning::ListLength as u32, 0);
+        return Err(Fault::Length);
     }
-    let large = first_large(count, list);
-    if large < list.len() {
-        return verdict(Meaning::NumberTooLarge as u32, large);
+    if let Some(i) = first_large(count, list) {
+        return Err(Fault::TooLarge(i));
     }
-    let alike = first_alike(list);
-    if alike < list.len() / 3 {
-        return verdict(Meaning::TwoAlike as u32, alike);
+    if let Some(t) = first_alike(list) {
+        return Err(Fault::Alike(t));
     }
-    let unnamed = first_unnamed(count, list);
-    if unnamed < count {
-        return verdict(Meaning::VertexUnnamed as u32, unnamed);
+    if let Some(v) = first_unnamed(count, list) {
+        return Err(Fault::Unnamed(v));
     }
-    verdict(Meaning::Accepted as u32, 0)
+    Ok(())
 }
 
 // The same, then whether each triangle but the first has exactly two vertices of some earlier one.
-pub fn check_attached(count: usize, list: &[u32]) -> Verdict
-    ensures { result ≡ check_attached_of count list.now }
+pub fn check_attached(count: usize, list: &[u32]) -> Result<(), Fault>
+    ensures { checked_of result ≡ check_attached_of count list.now }
 {
-    let checked = check(count, list);
-    if checked.number != Meaning::Accepted as u32 {
-        return checked;
+    check(count, list)?;
+    match first_loose(list) {
+        Some(t) => Err(Fault::NotAttached(t)),
+        None => Ok(()),
     }
-    let loose = first_loose(list);
-    if loose < list.len() / 3 {
-        return verdict(Meaning::NotAttached as u32, loose);
-    }
-    verdict(Meaning::Accepted as u32, 0)
-}
-
-fn verdict(number: u32, place: usize) -> Verdict
-    ensures { result ≡ record { number = number; place = place } }
-{
-    Verdict { number, place }
 }

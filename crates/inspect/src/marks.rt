@@ -1,7 +1,7 @@
 // Marks of vertices, 32 to a word.
-ghost use Rattle.std.specs.Prelude.{◌≡◌, ◌*◌, ◌≤◌, length};
-ghost use Rattle.inspect.specs.First.{first};
-ghost use Rattle.inspect.specs.Marks.{MarkedOne, marked, blank};
+ghost use Rattle.std.specs.Prelude.{◌≡◌, ◌*◌, ◌≤◌, ◌<◌, find, length};
+ghost use Rattle.std.specs.List.{range_with_len};
+ghost use Rattle.inspect.specs.Marks.{MarkedOne, blank};
 
 // Of a list of many vertices: as many as a path of 65,536 points can have, four to a point.
 pub(crate) const MARKS: usize = 262144;
@@ -27,17 +27,18 @@ pub(crate) fn mark_one(base: usize, x: usize, marks: &mut [u32])
     }
 }
 
-// The first of n marks that is not there, or n.
-pub(crate) fn first_blank(marks: &[u32], n: usize) -> usize
+// The first of n marks that is not there.
+pub(crate) fn first_blank(marks: &[u32], n: usize) -> Option<usize>
     requires { n ≤ 32 * length marks.now }
-    ensures { result ≡ first (blank marks.now) n }
+    ensures { result ≡ find (blank marks.now) (range_with_len 0 n) }
 {
-    let mut i = 0;
-    while i < n {
-        if (marks[i / 32] >> (i % 32)) % 2 == 0 {
-            return i;
-        }
-        i += 1;
-    }
-    i
+    (0..n).find(|i| is_blank(marks, *i))
+}
+
+#[tactic(auto, using(crate::proofs::Marking::is_blank_lem))]
+fn is_blank(marks: &[u32], i: usize) -> bool
+    requires { i < 32 * length marks.now }
+    ensures { result ≡ blank marks.now i }
+{
+    (marks[i / 32] >> (i % 32)) % 2 == 0
 }

@@ -1,41 +1,28 @@
 // Refusals 21 and 22: the numbers one by one, and triangle by triangle.
-ghost use Rattle.std.specs.Prelude.{◌≡◌, ◌/◌, length};
-ghost use Rattle.inspect.specs.Faults.{too_large, alike};
-ghost use Rattle.inspect.specs.First.{first};
+ghost use Rattle.std.specs.Prelude.{◌≡◌, ◌/◌, ◌<◌, find, leb, length, position};
+ghost use Rattle.std.specs.List.{range_with_len};
+ghost use Rattle.inspect.specs.Faults.{alike};
 
 use crate::three::{triangle_at, two_alike};
 
-// The index of the first number that is not below the count, or the length.
-pub(crate) fn first_large(count: usize, list: &[u32]) -> usize
-    ensures { result ≡ first (too_large count list.now) (length list.now) }
+// The index of the first number that is not below the count.
+pub(crate) fn first_large(count: usize, list: &[u32]) -> Option<usize>
+    ensures { result ≡ position (leb count) list.now }
 {
-    let mut i = 0;
-    while i < list.len() {
-        if wide(list[i]) >= count {
-            return i;
-        }
-        i += 1;
-    }
-    i
+    list.iter().position(|x| *x as usize >= count)
 }
 
-// The first triangle that names a vertex twice, or their number.
-pub(crate) fn first_alike(list: &[u32]) -> usize
-    ensures { result ≡ first (alike list.now) (length list.now / 3) }
+// The first triangle that names a vertex twice.
+pub(crate) fn first_alike(list: &[u32]) -> Option<usize>
+    ensures { result ≡ find (alike list.now) (range_with_len 0 (length list.now / 3)) }
 {
-    let n = list.len() / 3;
-    let mut t = 0;
-    while t < n {
-        if two_alike(triangle_at(list, t)) {
-            return t;
-        }
-        t += 1;
-    }
-    t
+    (0..list.len() / 3).find(|t| is_alike(list, *t))
 }
 
-pub(crate) fn wide(x: u32) -> usize
-    ensures { result ≡ x }
+#[tactic(auto, unfolding(crate::specs::Faults::alike))]
+fn is_alike(list: &[u32], t: usize) -> bool
+    requires { t < length list.now / 3 }
+    ensures { result ≡ alike list.now t }
 {
-    x as usize
+    two_alike(triangle_at(list, t))
 }

@@ -1,5 +1,6 @@
 // A triangle of an index list.
-ghost use Rattle.std.specs.Prelude.{◌≡◌, ◌/◌, ◌<◌, ◌≤◌, length};
+ghost use Rattle.std.specs.Prelude.{◌≡◌, ◌/◌, ◌<◌, length};
+ghost use Rattle.std.specs.Int.{from_bool};
 ghost use Rattle.triangles.specs.Facts.{in_tri, shared};
 ghost use Rattle.inspect.specs.Faults.{triangle_at, two_alike_in};
 ghost use Rattle.inspect.specs.Three.{tri_of};
@@ -12,6 +13,7 @@ pub(crate) struct Three {
     pub c: u32,
 }
 
+#[tactic(auto, unfolding(crate::specs::Faults::triangle_at))]
 pub(crate) fn triangle_at(list: &[u32], t: usize) -> Three
     requires { t < length list.now / 3 }
     ensures { tri_of result ≡ triangle_at list.now t }
@@ -24,38 +26,25 @@ pub(crate) fn triangle_at(list: &[u32], t: usize) -> Three
 }
 
 // Whether it names a vertex twice.
+#[tactic(auto, unfolding(crate::specs::Faults::two_alike_in))]
 pub(crate) fn two_alike(t: Three) -> bool
     ensures { result ≡ two_alike_in (tri_of t) }
 {
-    if t.a == t.b {
-        return true;
-    }
-    if t.b == t.c {
-        return true;
-    }
-    t.a == t.c
+    t.a == t.b || t.b == t.c || t.a == t.c
 }
 
 // How many of u's vertices are t's.
+#[tactic(auto, unfolding(triangles::specs::Facts::shared))]
 pub(crate) fn shared(t: Three, u: Three) -> u32
     ensures { result ≡ shared (tri_of t) (tri_of u) }
 {
-    has(t, u.a) + has(t, u.b) + has(t, u.c)
+    u32::from(has(t, u.a)) + u32::from(has(t, u.b)) + u32::from(has(t, u.c))
 }
 
-// 1 where x is one of its vertices.
-fn has(t: Three, x: u32) -> u32
-    ensures value { result ≡ in_tri (tri_of t) x }
-    ensures upper_bound { result ≤ 1 }
+// Whether x is one of its vertices.
+#[tactic(auto, unfolding(triangles::specs::Facts::in_tri))]
+fn has(t: Three, x: u32) -> bool
+    ensures { from_bool result ≡ in_tri (tri_of t) x }
 {
-    if t.a == x {
-        return 1;
-    }
-    if t.b == x {
-        return 1;
-    }
-    if t.c == x {
-        return 1;
-    }
-    0
+    t.a == x || t.b == x || t.c == x
 }

@@ -1,25 +1,35 @@
 -- `inspect::check` meets its contract. Assumes nothing.
-use mathlib.Core.Path.{◌∙◌}
-use Rattle.inspect.proofs.Judging.{found, says_length, then_large, then_alike, then_unnamed, then_next}
+use mathlib.Core.Path.{refl, sym, ◌∙◌}
+use Rattle.std.specs.Prelude.{None, Some}
+use Rattle.inspect.specs.Faults.{alike, unnamed}
+use Rattle.inspect.proofs.Firsts.{find_place}
+use Rattle.inspect.proofs.Judging.{found, large_place, says_length, then_large, then_alike, then_unnamed, then_next}
 use Rattle.inspect.proofs.check.Goals as goal
 
 pub returns-then-list-ne0 : goal.returns-then-list-ne0
-returns-then-list-ne0 c = c.verdict.ensures ∙ says_length _ _ _ c.if-list-ne0.true
+returns-then-list-ne0 c = says_length _ _ _ c.if-list-ne0.true
 
-pub returns-then-large-list : goal.returns-then-large-list
-returns-then-large-list c = c.verdict-then-large-list.ensures ∙ then_large _ _ _ _ c.if-list-ne0.false (found _ _ _ _ _ c.first_large-large.ensures c.if-large-list.true)
+pub returns-in-Some : goal.returns-in-Some
+returns-in-Some c =
+    let h = large_place c.args.count c.args.list.now (Some c.in-Some.i) (sym c.in-Some.is ∙ c.first_large.ensures) in
+    then_large _ _ _ _ c.if-list-ne0.false (found _ _ _ _ _ h.0 h.1)
 
-pub returns-then-alike-list : goal.returns-then-alike-list
-returns-then-alike-list c =
-    c.verdict-then-alike-list.ensures ∙ then_large _ _ _ _ c.if-list-ne0.false (then_alike _ _ _ _ _ c.first_large-large.ensures c.if-large-list.false
-    (found _ _ _ _ _ c.first_alike-alike.ensures c.if-alike-list.true))
+pub returns-in-Some-first_alike : goal.returns-in-Some-first_alike
+returns-in-Some-first_alike c =
+    let small = large_place c.args.count c.args.list.now None (sym c.in_default.is ∙ c.first_large.ensures) in
+    let h = find_place (alike c.args.list.now) _ (Some c.in-Some-first_alike.t) (sym c.in-Some-first_alike.is ∙ c.first_alike.ensures) in
+    then_large _ _ _ _ c.if-list-ne0.false (then_alike _ _ _ _ _ refl small (found _ _ _ _ _ h.0 h.1))
 
-pub returns-then-unnamed-count : goal.returns-then-unnamed-count
-returns-then-unnamed-count c =
-    c.verdict-then-unnamed-count.ensures ∙ then_large _ _ _ _ c.if-list-ne0.false (then_alike _ _ _ _ _ c.first_large-large.ensures c.if-large-list.false
-    (then_unnamed _ _ _ _ _ c.first_alike-alike.ensures c.if-alike-list.false (found _ _ _ _ _ c.first_unnamed-unnamed.ensures c.if-unnamed-count.true)))
+pub returns-in-Some-first_unnamed : goal.returns-in-Some-first_unnamed
+returns-in-Some-first_unnamed c =
+    let small = large_place c.args.count c.args.list.now None (sym c.in_default.is ∙ c.first_large.ensures) in
+    let differ = find_place (alike c.args.list.now) _ None (sym c.in_default-first_alike.is ∙ c.first_alike.ensures) in
+    let h = find_place (unnamed c.args.list.now) _ (Some c.in-Some-first_unnamed.v) (sym c.in-Some-first_unnamed.is ∙ c.first_unnamed.ensures) in
+    then_large _ _ _ _ c.if-list-ne0.false (then_alike _ _ _ _ _ refl small (then_unnamed _ _ _ _ _ refl differ (found _ _ _ _ _ h.0 h.1)))
 
 pub returns : goal.returns
 returns c =
-    c.verdict-2.ensures ∙ then_large _ _ _ _ c.if-list-ne0.false (then_alike _ _ _ _ _ c.first_large-large.ensures c.if-large-list.false
-    (then_unnamed _ _ _ _ _ c.first_alike-alike.ensures c.if-alike-list.false (then_next _ _ _ _ c.first_unnamed-unnamed.ensures c.if-unnamed-count.false)))
+    let small = large_place c.args.count c.args.list.now None (sym c.in_default.is ∙ c.first_large.ensures) in
+    let differ = find_place (alike c.args.list.now) _ None (sym c.in_default-first_alike.is ∙ c.first_alike.ensures) in
+    let named = find_place (unnamed c.args.list.now) _ None (sym c.in_default-first_unnamed.is ∙ c.first_unnamed.ensures) in
+    then_large _ _ _ _ c.if-list-ne0.false (then_alike _ _ _ _ _ refl small (then_unnamed _ _ _ _ _ refl differ (then_next _ _ _ _ refl named)))

@@ -1,19 +1,30 @@
 -- `inspect::names::first_unnamed` meets its contract. Every vertex before the part is named. Assumes nothing.
+use mathlib.Core.Path.{sym, ◌∙◌}
 use native.Mathlib.Omega.{arith}
-use Rattle.inspect.proofs.Firsts.{clear_none, first_end, first_part, clear_part}
+use Rattle.inspect.specs.Faults.{unnamed}
+use Rattle.inspect.proofs.Firsts.{find_none, first_part, clear_part}
 use Rattle.inspect.proofs.names.first_unnamed.Goals as goal
 
-pub loop-base-init : goal.loop-base-init
-loop-base-init c = (omega arith, clear_none _)
+pub overflow_add-result : goal.overflow_add-result
+overflow_add-result c =
+    let h = first_part (unnamed c.args.list.now) c.loop-base.base c.min.result (λ k l. c.loop-base.invariant k l (omega arith)) c.in-Some.k c.args.count (omega arith)
+    (sym c.in-Some.is ∙ c.first_unnamed_from.ensures) in
+    omega (arith, h.0)
 
-pub returns-then-k-n : goal.returns-then-k-n
-returns-then-k-n c = first_part _ _ _ _ c.loop-base.invariant.1 c.first_unnamed_from-k.ensures _ (omega (arith, c.least-n.ensures.0)) c.if-k-n.true
-
-pub loop-base-smaller : goal.loop-base-smaller
-loop-base-smaller c = omega (arith, c.least-n.ensures.0, c.least-n.ensures.2 (omega arith) (omega arith))
+pub returns-in-Some : goal.returns-in-Some
+returns-in-Some c =
+    (first_part (unnamed c.args.list.now) c.loop-base.base c.min.result (λ k l. c.loop-base.invariant k l (omega arith)) c.in-Some.k c.args.count (omega arith)
+    (sym c.in-Some.is ∙ c.first_unnamed_from.ensures)).1
 
 pub loop-base-preserved : goal.loop-base-preserved
-loop-base-preserved c = (omega (arith, c.least-n.ensures.0), clear_part _ _ _ _ c.loop-base.invariant.1 c.first_unnamed_from-k.ensures c.if-k-n.false)
+loop-base-preserved c k l h =
+    clear_part (unnamed c.args.list.now) c.loop-base.base c.min.result (λ k l. c.loop-base.invariant k l (omega arith)) (sym c.in_default.is ∙ c.first_unnamed_from.ensures)
+    k (omega arith)
+
+pub returns-in_default : goal.returns-in_default
+returns-in_default c =
+    find_none _ _ (λ k l. clear_part (unnamed c.args.list.now) c.loop-base.base c.min.result (λ k l. c.loop-base.invariant k l (omega arith)) (sym c.in_default.is ∙ c.first_unnamed_from.ensures)
+    k (omega arith))
 
 pub returns : goal.returns
-returns c = first_end _ _ _ c.loop-base.invariant.0 c.loop-base-test.false c.loop-base.invariant.1
+returns c = find_none _ _ (λ k l. c.loop-base.invariant k (omega arith) l)
