@@ -3,23 +3,20 @@
 
 pub mod strips;
 
-ghost use Rattle.std.specs.Prelude.{◌+◌, ◌<◌, length, drop};
-ghost use Rattle.endpoint.specs.Endpoint.{id_limit};
-ghost use Rattle.kept.specs.Points.{endpoints_of};
 ghost use Rattle.joints.specs.Leg.{next_leg_of};
 ghost use Rattle.pieces.specs.Piece.{lent};
-ghost use Rattle.along.specs.Points.{visit_of, walked};
+ghost use Rattle.along.specs.Points.{visit_of, walked, to_pass};
 ghost use Rattle.bends.specs.Weave.{WeaveFits};
 ghost use Rattle.weave.specs.Points.{advanced, visited, passed};
 ghost use Rattle.weave.specs.Walk.{Walks};
 
-use along::{Pass, Stretch, is_dropped};
+use along::stretch::Stretch;
+use along::{Pass, is_dropped};
 use bends::{Bend, Weave, pass_bend};
 use endpoint::Endpoint;
 use fans::Round;
 use joints::joint::joint_again;
 use joints::leg::{Leg, next_leg};
-use kept::endpoint_at;
 use pieces::Index;
 
 // How far a run has come: the leg reached, and what is woven or counted.
@@ -81,18 +78,14 @@ pub fn pass_points(
     t: &mut [Index],
     pass: Pass,
     r: Round,
-    w: Walk,
-    p: &[f32],
+    mut w: Walk,
     s: Stretch,
 ) -> Walk
-    requires p_bound { s.first.0 + length p.now < id_limit }
-    requires weave_fits { WeaveFits pass.write pass.stroke r w.weave (passed s.sure pass.stroke w.leg (drop s.from (endpoints_of s.first.0 p.now))) (lent v.old src.old t.old) }
-    ensures { Walks pass r (passed s.sure pass.stroke w.leg (drop s.from (endpoints_of s.first.0 p.now))) (walked s.sure pass.stroke w.leg (drop s.from (endpoints_of s.first.0 p.now))) w (lent v.old src.old t.old) (lent v.new src.new t.new) result }
+    requires { WeaveFits pass.write pass.stroke r w.weave (passed s.sure pass.stroke w.leg (to_pass s)) (lent v.old src.old t.old) }
+    ensures { Walks pass r (passed s.entry.sure pass.stroke w.leg (to_pass s.entry)) (walked s.entry.sure pass.stroke w.leg (to_pass s.entry)) w (lent v.old src.old t.old) (lent v.new src.new t.new) result }
 {
-    let mut w = w;
-    for i in s.from..p.len() / 2 {
-        let c = endpoint_at(p, s.first, i);
-        w = pass_point(v, src, t, pass, r, w, c, s.sure);
+    for i in s.from..s.points.count() {
+        w = pass_point(v, src, t, pass, r, w, s.points.at(i), s.sure);
     }
     w
 }

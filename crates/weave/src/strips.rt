@@ -1,12 +1,10 @@
-// The weaving along a run of two kept points or more. p has the run's coordinates; the second kept point stands at i, and none is dropped on closing. The strip's
-// vertices are numbered from where the run is, the arcs' from arcs on, at the start of what is lent of their lists.
+// The weaving along a run of two kept points or more. The strip's vertices are numbered from base on, the arcs' from arcs on, at the start of what is lent of their
+// lists.
 ghost use Rattle.std.specs.Prelude.{true, false, ◌≡◌, [], ◌∷◌};
 ghost use Rattle.joints.specs.Joint.{start_cap_of};
 ghost use Rattle.joints.specs.Leg.{first_leg_of};
-ghost use Rattle.kept.specs.Looks.{run_from};
-ghost use Rattle.kept.specs.Points.{endpoint_at};
+ghost use Rattle.kept.specs.Held.{p0_of, p1_of, run_of};
 ghost use Rattle.strip.specs.Strip.{StripFits, start_of};
-ghost use Rattle.along.specs.Strips.{Within};
 ghost use Rattle.pieces.specs.Piece.{lent, from};
 ghost use Rattle.bends.specs.Weave.{WeaveFits, WeavePasses};
 ghost use Rattle.weave.specs.Points.{bends_of, end_bend, round_of};
@@ -14,12 +12,14 @@ ghost use Rattle.weave.specs.Walk.{opened_of, closed_of};
 
 use crate::{Walk, pass_points};
 use along::strips::first_leg;
-use along::{At, Pass, Stretch};
+use along::Pass;
+use along::stretch::Stretch;
 use bends::{Bend, Weave, pass_bend};
-use endpoint::{VertexId, endpoint_after};
+use endpoint::VertexId;
 use fans::Round;
 use joints::joint::{end_cap, start_cap};
 use joints::leg::Leg;
+use kept::points::Kept;
 use options::Stroke;
 use pieces::{Index, Place};
 use strip::joint::{negative_count, positive_count};
@@ -78,31 +78,24 @@ pub fn weave_open(
     t: &mut [Index],
     pass: Pass,
     r: Round,
-    p: &[f32],
-    at: At,
-    i: usize,
+    k: Kept,
+    base: VertexId,
     arcs: VertexId,
 ) -> Weave
-    requires within { Within p.now at.endpoint.0 i }
-    requires strip_fits { StripFits false (start_of at.vertex) (start_cap_of pass.stroke (first_leg_of pass.stroke.half_width (endpoint_at p.now at.endpoint.0 0) (endpoint_at p.now at.endpoint.0 i)) ∷ []) (lent [] [] []) }
-    requires weave_fits { WeaveFits pass.write pass.stroke r (opened_of pass.stroke r (first_leg_of pass.stroke.half_width (endpoint_at p.now at.endpoint.0 0) (endpoint_at p.now at.endpoint.0 i)) at.vertex arcs) (bends_of false pass.stroke (run_from pass.stroke.near p.now at.endpoint.0 i)) (lent v.old src.old t.old) }
-    ensures { WeavePasses pass.write pass.stroke r (bends_of false pass.stroke (run_from pass.stroke.near p.now at.endpoint.0 i)) (opened_of pass.stroke r (first_leg_of pass.stroke.half_width (endpoint_at p.now at.endpoint.0 0) (endpoint_at p.now at.endpoint.0 i)) at.vertex arcs) (lent v.old src.old t.old) (lent v.new src.new t.new) result }
+    requires strip_fits { StripFits false (start_of base) (start_cap_of pass.stroke (first_leg_of pass.stroke.half_width (p0_of k) (p1_of k)) ∷ []) (lent [] [] []) }
+    requires weave_fits { WeaveFits pass.write pass.stroke r (opened_of pass.stroke r (first_leg_of pass.stroke.half_width (p0_of k) (p1_of k)) base arcs) (bends_of false pass.stroke (run_of pass.stroke.near k)) (lent v.old src.old t.old) }
+    ensures { WeavePasses pass.write pass.stroke r (bends_of false pass.stroke (run_of pass.stroke.near k.entry)) (opened_of pass.stroke r (first_leg_of pass.stroke.half_width (p0_of k.entry) (p1_of k.entry)) base arcs) (lent v.old src.old t.old) (lent v.new src.new t.new) result }
 {
-    let leg = first_leg(pass.stroke.half_width, p, at.endpoint, i);
+    let leg = first_leg(pass.stroke.half_width, k);
     let start = Walk {
         leg,
-        weave: begin(pass.stroke, r, leg, at.vertex, arcs),
+        weave: begin(pass.stroke, r, leg, base, arcs),
     };
-    let rest = Stretch {
-        first: at.endpoint,
-        from: i + 1,
-        sure: false,
-    };
-    let w = pass_points(v, src, t, pass, r, start, p, rest);
+    let w = pass_points(v, src, t, pass, r, start, Stretch::rest(k));
     finish(v, src, t, pass, r, w)
 }
 
-// Round to p0 and on to p1, the points 0 and i: the joins n-1 and 0 of a closed run.
+// Round to p0 and on to p1: the joins n-1 and 0 of a closed run.
 fn go_round(
     v: &mut [f32],
     src: &mut [u32],
@@ -110,25 +103,13 @@ fn go_round(
     pass: Pass,
     r: Round,
     w: Walk,
-    p: &[f32],
-    on: Stretch,
+    k: Kept,
 ) -> Weave
-    requires within { Within p.now on.first.0 on.from }
-    requires weave_fits { WeaveFits pass.write pass.stroke r w.weave (round_of pass.stroke w.leg (endpoint_at p.now on.first.0 0) (endpoint_at p.now on.first.0 on.from)) (lent v.old src.old t.old) }
-    ensures { WeavePasses pass.write pass.stroke r (round_of pass.stroke w.leg (endpoint_at p.now on.first.0 0) (endpoint_at p.now on.first.0 on.from)) w.weave (lent v.old src.old t.old) (lent v.new src.new t.new) result }
+    requires { WeaveFits pass.write pass.stroke r w.weave (round_of pass.stroke w.leg (p0_of k) (p1_of k)) (lent v.old src.old t.old) }
+    ensures { WeavePasses pass.write pass.stroke r (round_of pass.stroke w.leg (p0_of k.entry) (p1_of k.entry)) w.weave (lent v.old src.old t.old) (lent v.new src.new t.new) result }
 {
-    let p0 = Stretch {
-        from: 0,
-        sure: true,
-        ..on
-    };
-    let home = pass_points(v, src, t, pass, r, w, &p[..2], p0);
-    let p1 = Stretch {
-        first: endpoint_after(on.first, on.from),
-        ..p0
-    };
-    let from = 2 * on.from;
-    let end = pass_points(v, src, t, pass, r, home, &p[from..from + 2], p1);
+    let home = pass_points(v, src, t, pass, r, w, Stretch::back(k));
+    let end = pass_points(v, src, t, pass, r, home, Stretch::on(k));
     end.weave
 }
 
@@ -139,32 +120,20 @@ pub fn weave_closed(
     t: &mut [Index],
     pass: Pass,
     r: Round,
-    p: &[f32],
-    at: At,
-    i: usize,
+    k: Kept,
+    base: VertexId,
     arcs: VertexId,
 ) -> Weave
-    requires within { Within p.now at.endpoint.0 i }
-    requires weave_fits { WeaveFits pass.write pass.stroke r (closed_of at.vertex arcs) (bends_of true pass.stroke (run_from pass.stroke.near p.now at.endpoint.0 i)) (lent v.old src.old t.old) }
-    ensures { WeavePasses pass.write pass.stroke r (bends_of true pass.stroke (run_from pass.stroke.near p.now at.endpoint.0 i)) (closed_of at.vertex arcs) (lent v.old src.old t.old) (lent v.new src.new t.new) result }
+    requires { WeaveFits pass.write pass.stroke r (closed_of base arcs) (bends_of true pass.stroke (run_of pass.stroke.near k)) (lent v.old src.old t.old) }
+    ensures { WeavePasses pass.write pass.stroke r (bends_of true pass.stroke (run_of pass.stroke.near k.entry)) (closed_of base arcs) (lent v.old src.old t.old) (lent v.new src.new t.new) result }
 {
-    let leg = first_leg(pass.stroke.half_width, p, at.endpoint, i);
+    let leg = first_leg(pass.stroke.half_width, k);
     let begun = Weave {
-        strip: start(at.vertex),
+        strip: start(base),
         place: unwoven(arcs),
         due: false,
     };
     let walk = Walk { leg, weave: begun };
-    let rest = Stretch {
-        first: at.endpoint,
-        from: i + 1,
-        sure: false,
-    };
-    let w = pass_points(v, src, t, pass, r, walk, p, rest);
-    let second = Stretch {
-        from: i,
-        sure: true,
-        ..rest
-    };
-    go_round(v, src, t, pass, r, w, p, second)
+    let w = pass_points(v, src, t, pass, r, walk, Stretch::rest(k));
+    go_round(v, src, t, pass, r, w, k)
 }

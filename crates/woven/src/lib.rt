@@ -3,17 +3,17 @@
 #![tactic(auto)]
 
 ghost use Rattle.std.specs.Prelude.{cond, true, ◌≡◌, ◌*◌};
-ghost use Rattle.kept.specs.Looks.{run_from};
+ghost use Rattle.kept.specs.Held.{run_of};
 ghost use Rattle.lists.specs.Over.{put_at};
 ghost use Rattle.pieces.specs.Piece.{lent, from, flat_t};
-ghost use Rattle.along.specs.Strips.{Within};
 ghost use Rattle.fans.specs.Weft.{WeftPasses};
 ghost use Rattle.bends.specs.Bend.{FaceFits};
 ghost use Rattle.woven.specs.Woven.{way_round, woven_of, over_strip, WovenFits};
 
-use along::{At, Pass};
+use along::Pass;
 use endpoint::{VertexId, vertex_after};
 use fans::Round;
+use kept::points::Kept;
 use pieces::{Index, Place};
 use strip::{Strip, put_close};
 use weave::strips::{weave_closed, weave_open};
@@ -43,16 +43,14 @@ fn weave_round(
     t: &mut [Index],
     pass: Pass,
     r: Round,
-    p: &[f32],
-    at: At,
-    i: usize,
+    k: Kept,
+    base: VertexId,
     arcs: VertexId,
 ) -> Place
-    requires within { Within p.now at.endpoint.0 i }
-    requires woven_fits { WovenFits pass.write true pass.stroke r at.vertex (run_from pass.stroke.near p.now at.endpoint.0 i) (from arcs) (lent v.old src.old t.old) }
-    ensures { WeftPasses pass.write (from arcs) (woven_of true pass.stroke r at.vertex (run_from pass.stroke.near p.now at.endpoint.0 i)) (lent v.old src.old t.old) (lent v.new src.new t.new) result }
+    requires { WovenFits pass.write true pass.stroke r base (run_of pass.stroke.near k) (from arcs) (lent v.old src.old t.old) }
+    ensures { WeftPasses pass.write (from arcs) (woven_of true pass.stroke r base (run_of pass.stroke.near k.entry)) (lent v.old src.old t.old) (lent v.new src.new t.new) result }
 {
-    let w = weave_closed(v, src, t, pass, r, p, at, i, arcs);
+    let w = weave_closed(v, src, t, pass, r, k, base, arcs);
     close_round(t, w.place, w.strip, pass.write);
     Place {
         triangles: w.strip.place.vertices + w.place.vertices,
@@ -67,20 +65,18 @@ fn weave_run(
     t: &mut [Index],
     pass: Pass,
     r: Round,
-    p: &[f32],
-    at: At,
-    i: usize,
+    k: Kept,
+    base: VertexId,
     arcs: VertexId,
     closed: bool,
 ) -> Place
-    requires within { Within p.now at.endpoint.0 i }
-    requires woven_fits { WovenFits pass.write closed pass.stroke r at.vertex (run_from pass.stroke.near p.now at.endpoint.0 i) (from arcs) (lent v.old src.old t.old) }
-    ensures { WeftPasses pass.write (from arcs) (woven_of closed pass.stroke r at.vertex (run_from pass.stroke.near p.now at.endpoint.0 i)) (lent v.old src.old t.old) (lent v.new src.new t.new) result }
+    requires { WovenFits pass.write closed pass.stroke r base (run_of pass.stroke.near k) (from arcs) (lent v.old src.old t.old) }
+    ensures { WeftPasses pass.write (from arcs) (woven_of closed pass.stroke r base (run_of pass.stroke.near k.entry)) (lent v.old src.old t.old) (lent v.new src.new t.new) result }
 {
     if closed {
-        return weave_round(v, src, t, pass, r, p, at, i, arcs);
+        return weave_round(v, src, t, pass, r, k, base, arcs);
     }
-    let w = weave_open(v, src, t, pass, r, p, at, i, arcs);
+    let w = weave_open(v, src, t, pass, r, k, base, arcs);
     w.place
 }
 
@@ -91,34 +87,31 @@ pub fn weave_behind(
     t: &mut [Index],
     pass: Pass,
     r: Round,
-    p: &[f32],
-    at: At,
-    i: usize,
+    k: Kept,
+    base: VertexId,
     closed: bool,
     n: usize,
 ) -> Place
-    requires within { Within p.now at.endpoint.0 i }
-    requires woven_fits { WovenFits pass.write closed pass.stroke r at.vertex (run_from pass.stroke.near p.now at.endpoint.0 i) (over_strip at.vertex n) (lent v.old src.old t.old) }
-    ensures { WeftPasses pass.write (over_strip at.vertex n) (woven_of closed pass.stroke r at.vertex (run_from pass.stroke.near p.now at.endpoint.0 i)) (lent v.old src.old t.old) (lent v.new src.new t.new) result }
+    requires { WovenFits pass.write closed pass.stroke r base (run_of pass.stroke.near k) (over_strip base n) (lent v.old src.old t.old) }
+    ensures { WeftPasses pass.write (over_strip base n) (woven_of closed pass.stroke r base (run_of pass.stroke.near k.entry)) (lent v.old src.old t.old) (lent v.new src.new t.new) result }
 {
     let b = place_of(pass.write, n);
     let a = 5 * b;
-    let arcs = vertex_after(at.vertex, n);
-    let k = weave_run(
+    let arcs = vertex_after(base, n);
+    let woven = weave_run(
         &mut v[a..],
         &mut src[b..],
         t,
         pass,
         r,
-        p,
-        at,
-        i,
+        k,
+        base,
         arcs,
         closed,
     );
     Place {
-        base: at.vertex,
-        vertices: n + k.vertices,
-        ..k
+        base,
+        vertices: n + woven.vertices,
+        ..woven
     }
 }

@@ -5,20 +5,20 @@ use Rattle.run.proofs.draw_kept.Goals as goal
 
 pub draw_alone-requires-clause-draw_fits : goal.draw_alone-requires-clause-draw_fits
 draw_alone-requires-clause-draw_fits c =
-    let alone = alone_shape c.args.pass.stroke _ c.requires.in_bounds.0 c.first_far-i.ensures _ c.if-p-i.true c.endpoint_at-alone.ensures in
+    let alone = alone_shape c.args.pass.stroke _ c.requires.in_bounds c.first_far-second.ensures _ (rw c.count.ensures at c.if-count-second.true) c.at.ensures in
     fits_as c.args.pass refl alone c.requires.draw_fits
 
-pub returns-then-p-i : goal.returns-then-p-i
-returns-then-p-i c =
-    let alone = alone_shape c.args.pass.stroke _ c.requires.in_bounds.0 c.first_far-i.ensures _ c.if-p-i.true c.endpoint_at-alone.ensures in
+pub returns-then-count-second : goal.returns-then-count-second
+returns-then-count-second c =
+    let alone = alone_shape c.args.pass.stroke _ c.requires.in_bounds c.first_far-second.ensures _ (rw c.count.ensures at c.if-count-second.true) c.at.ensures in
     draws_as c.args.pass refl alone c.draw_alone.ensures
 
-pub draw_strip-requires-clause-draw_fits : goal.draw_strip-requires-clause-draw_fits
-draw_strip-requires-clause-draw_fits c =
-    let far = far_shape c.args.pass.stroke c.args.ends.lines c.requires.in_bounds.0 c.first_far-i.ensures c.args.ends.closed c.if-p-i.false in
+pub draw_strip-requires : goal.draw_strip-requires
+draw_strip-requires c =
+    let far = far_shape c.args.pass.stroke c.args.ends.lines c.requires.in_bounds c.first_far-second.ensures c.args.ends.closed (rw c.count.ensures at c.if-count-second.false) in
     fits_as c.args.pass refl far c.requires.draw_fits
 
 pub returns : goal.returns
 returns c =
-    let far = far_shape c.args.pass.stroke c.args.ends.lines c.requires.in_bounds.0 c.first_far-i.ensures c.args.ends.closed c.if-p-i.false in
+    let far = far_shape c.args.pass.stroke c.args.ends.lines c.requires.in_bounds c.first_far-second.ensures c.args.ends.closed (rw c.count.ensures at c.if-count-second.false) in
     draws_as c.args.pass refl far c.draw_strip.ensures

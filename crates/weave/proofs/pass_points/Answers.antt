@@ -4,7 +4,7 @@ use mathlib.Core.Path.{◌≡◌, refl, sym, ◌∙◌}
 use mathlib.Core.List.{[]}
 use native.Mathlib.Omega.{arith}
 use lib.ListN.{length, drop, drop_of_length-le}
-use Rattle.kept.specs.Points.{endpoints_of}
+use Rattle.kept.specs.Held.{points_of}
 use Rattle.kept.proofs.Indexed.{points_length}
 use Rattle.bends.proofs.Pending.{midway_start, midway_end}
 use Rattle.along.specs.Points.{walked}
@@ -19,15 +19,15 @@ pub pass_point-w-requires : goal.pass_point-w-requires
 pass_point-w-requires c =
     let l = c.loop-i in
     let a = c.args in
-    rw c.endpoint_at-c.ensures
-    (visit_has a.s.sure a.pass a.r a.p.now a.s.first.0 l.i (omega (arith, c.loop-i-test.true)) l.w l.invariant.0 c.requires.weave_fits)
+    rw c.at.ensures
+    (visit_has a.s.sure a.pass a.r a.s.points.coords.now a.s.points.first.0 l.i (omega (arith, c.loop-i-test.true)) l.w l.invariant.0 c.requires)
 
 pub loop-i-preserved : goal.loop-i-preserved
 loop-i-preserved c =
     let l = c.loop-i in
     let a = c.args in
-    let f = rw c.endpoint_at-c.ensures at c.pass_point-w.ensures in
-    let turn = visit_turn a.s.sure a.pass a.r a.p.now a.s.first.0 l.i (omega (arith, c.loop-i-test.true)) l.w l.invariant.0 f in
+    let f = rw c.at.ensures at c.pass_point-w.ensures in
+    let turn = visit_turn a.s.sure a.pass a.r a.s.points.coords.now a.s.points.first.0 l.i (omega (arith, c.loop-i-test.true)) l.w l.invariant.0 f in
     (turn.0, l.invariant.1 ∙ turn.1)
 
 pub returns : goal.returns
@@ -35,7 +35,7 @@ unfolding walked
 returns c =
     let l = c.loop-i in
     let a = c.args in
-    let ps = endpoints_of a.s.first.0 a.p.now in
-    let done : length ps ≤ l.i = omega (arith, c.loop-i-test.false, points_length a.p.now a.s.first.0) in
+    let ps = points_of a.s.points in
+    let done : length ps ≤ l.i = omega (arith, c.loop-i-test.false, points_length a.s.points.coords.now a.s.points.first.0) in
     let none : drop l.i ps ≡ [] = drop_of_length-le ps done in
     record { leg = sym (l.invariant.1 ∙ rw none); puts = midway_end (rw (none, passed_none a.pass.stroke a.s.sure l.w.leg) at l.invariant.0) }

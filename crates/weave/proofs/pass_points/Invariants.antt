@@ -2,7 +2,7 @@
 use mathlib.Core.Path.{◌≡◌}
 use lib.ListN.{drop}
 use Rattle.pieces.specs.Piece.{lent}
-use Rattle.kept.specs.Points.{endpoints_of}
+use Rattle.kept.specs.Held.{points_of}
 use Rattle.bends.proofs.Pending.{Midway}
 use Rattle.along.specs.Points.{walked}
 use Rattle.weave.specs.Points.{passed}
@@ -10,6 +10,6 @@ use Rattle.weave.proofs.pass_points.Given as goal
 
 abbrev pub invariant-loop-i : goal.invariant-loop-i
 invariant-loop-i l =
-    let ps = endpoints_of l.s.first.0 l.p in
+    let ps = points_of l.s.points in
     Midway l.pass.write l.pass.stroke l.r l.initial.w.weave (passed l.s.sure l.pass.stroke l.initial.w.leg (drop l.s.from ps)) (lent l.initial.v l.initial.src l.initial.t) (passed l.s.sure l.pass.stroke l.w.leg (drop l.i ps)) l.w.weave (lent l.v l.src l.t)
     × (walked l.s.sure l.pass.stroke l.initial.w.leg (drop l.s.from ps) ≡ walked l.s.sure l.pass.stroke l.w.leg (drop l.i ps))

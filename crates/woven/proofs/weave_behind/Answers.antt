@@ -6,4 +6,4 @@ pub returns : goal.returns
 returns c =
     let a = c.args in
     let is = c.vertex_after-arcs.ensures in
-    part_passes a.closed a.pass.stroke a.r a.at.vertex _ a.n c.requires.woven_fits is c.place_of-b.result c.place_of-b.ensures _ _ _ c.weave_run-k.result c.weave_run-k.ensures
+    part_passes a.closed a.pass.stroke a.r a.base _ a.n c.requires is c.place_of-b.result c.place_of-b.ensures _ _ _ c.weave_run-woven.result c.weave_run-woven.ensures
