@@ -1,6 +1,6 @@
 // The stretches of a run that its pass goes along, one behind the other.
-ghost use Rattle.std.specs.Prelude.{true, false, ◌≡◌, ◌+◌, [], ◌∷◌, drop};
-ghost use Rattle.kept.specs.Held.{points_of, p0_of, p1_of};
+ghost use Rattle.std.specs.Prelude.{true, false, ◌≡◌, [], ◌∷◌};
+ghost use Rattle.kept.specs.Held.{p0_of, p1_of, behind_of};
 ghost use Rattle.along.specs.Points.{to_pass};
 
 use endpoint::endpoint_after;
@@ -17,7 +17,7 @@ pub struct Stretch<'a> {
 impl<'a> Stretch<'a> {
     // Behind the second kept point.
     pub fn rest(k: Kept<'a>) -> Stretch<'a>
-        ensures points { to_pass result ≡ drop (k.entry.second + 1) (points_of k.entry.points) }
+        ensures points { to_pass result ≡ behind_of k.entry }
         ensures sure { result.sure ≡ false }
     {
         Stretch {

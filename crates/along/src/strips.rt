@@ -6,10 +6,9 @@ ghost use Rattle.kept.specs.Held.{p0_of, p1_of, run_of};
 ghost use Rattle.strip.specs.Strip.{StripFits, StripPasses, start_of};
 ghost use Rattle.pieces.specs.Piece.{lent};
 ghost use Rattle.along.specs.Walk.{Walks};
-ghost use Rattle.along.specs.Strips.{round_of};
 
-use crate::stretch::Stretch;
-use crate::{Pass, Walk, pass_points};
+use crate::pen::{go_round, pass_behind};
+use crate::{Pass, Walk};
 use endpoint::{EndpointData, VertexId};
 use joints::joint::{end_cap, start_cap};
 use joints::leg::{Leg, leg_of};
@@ -84,25 +83,8 @@ pub fn pass_open(
 {
     let leg = first_leg(pass.stroke.half_width, k);
     let begun = begin(v, src, t, pass, leg, base);
-    let w = pass_points(v, src, t, pass, begun, Stretch::rest(k));
+    let w = pass_behind(v, src, t, pass, (), begun, k);
     finish(v, src, t, pass, w)
-}
-
-// Round to p0 and on to p1: the joins n-1 and 0 of a closed run.
-fn go_round(
-    v: &mut [f32],
-    src: &mut [u32],
-    t: &mut [Index],
-    pass: Pass,
-    w: Walk,
-    k: Kept,
-) -> Strip
-    requires { StripFits pass.write w.strip (round_of pass.stroke w.leg (p0_of k) (p1_of k)) (lent v.old src.old t.old) }
-    ensures { StripPasses pass.write (round_of pass.stroke w.leg (p0_of k.entry) (p1_of k.entry)) w.strip (lent v.old src.old t.old) (lent v.new src.new t.new) result }
-{
-    let home = pass_points(v, src, t, pass, w, Stretch::back(k));
-    let end = pass_points(v, src, t, pass, home, Stretch::on(k));
-    end.strip
 }
 
 // A closed run's joins.
@@ -122,6 +104,6 @@ pub fn pass_closed(
         leg,
         strip: start(base),
     };
-    let w = pass_points(v, src, t, pass, begun, Stretch::rest(k));
-    go_round(v, src, t, pass, w, k)
+    let w = pass_behind(v, src, t, pass, (), begun, k);
+    go_round(v, src, t, pass, (), w, k).strip
 }

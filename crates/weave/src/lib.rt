@@ -3,15 +3,16 @@
 
 pub mod strips;
 
-ghost use Rattle.joints.specs.Leg.{next_leg_of};
 ghost use Rattle.pieces.specs.Piece.{lent};
-ghost use Rattle.along.specs.Points.{visit_of, walked, to_pass};
+ghost use Rattle.along.specs.Points.{walked, to_pass};
 ghost use Rattle.bends.specs.Weave.{WeaveFits};
-ghost use Rattle.weave.specs.Points.{advanced, visited, passed};
-ghost use Rattle.weave.specs.Walk.{Walks};
+ghost use Rattle.weave.specs.Points.{passed};
+ghost use Rattle.weave.specs.Walk.{Walks, needs_of, does_of};
+ghost use Rattle.weave.specs.Laws.{walk_laws};
 
+use along::Pass;
+use along::pen::{Pen, pass_stretch};
 use along::stretch::Stretch;
-use along::{Pass, is_dropped};
 use bends::{Bend, Weave, pass_bend};
 use endpoint::Endpoint;
 use fans::Round;
@@ -26,49 +27,41 @@ pub struct Walk {
     pub weave: Weave,
 }
 
-// The next point, which is kept.
-fn pass_kept(
-    v: &mut [f32],
-    src: &mut [u32],
-    t: &mut [Index],
-    pass: Pass,
-    r: Round,
-    w: Walk,
-    p: Endpoint,
-) -> Walk
-    requires { WeaveFits pass.write pass.stroke r w.weave (advanced pass.stroke w.leg p) (lent v.old src.old t.old) }
-    ensures { Walks pass r (advanced pass.stroke w.leg p) (next_leg_of pass.stroke.half_width w.leg p) w (lent v.old src.old t.old) (lent v.new src.new t.new) result }
-{
-    let next = next_leg(pass.stroke.half_width, w.leg, p);
-    let b = Bend {
-        joint: joint_again(pass.stroke, w.leg, next),
-        leg: w.leg,
-        end: false,
-    };
-    Walk {
-        leg: next,
-        weave: pass_bend(v, src, t, pass.write, pass.stroke, r, w.weave, b),
-    }
-}
+impl Pen for Walk {
+    type Ink = Round;
 
-// The next point, which may be dropped.
-fn pass_point(
-    v: &mut [f32],
-    src: &mut [u32],
-    t: &mut [Index],
-    pass: Pass,
-    r: Round,
-    w: Walk,
-    p: Endpoint,
-    sure: bool,
-) -> Walk
-    requires { WeaveFits pass.write pass.stroke r w.weave (visited sure pass.stroke w.leg p) (lent v.old src.old t.old) }
-    ensures { Walks pass r (visited sure pass.stroke w.leg p) (visit_of sure pass.stroke w.leg p) w (lent v.old src.old t.old) (lent v.new src.new t.new) result }
-{
-    if is_dropped(pass.stroke.near, sure, w.leg, p) {
-        return w;
+    ghost reached = { λ w. w.leg };
+
+    ghost needs = { needs_of };
+
+    ghost does = { does_of };
+
+    ghost laws = { walk_laws };
+
+    fn leg(&self) -> Leg {
+        self.leg
     }
-    pass_kept(v, src, t, pass, r, w, p)
+
+    fn pass_kept(
+        self,
+        v: &mut [f32],
+        src: &mut [u32],
+        t: &mut [Index],
+        pass: Pass,
+        r: Round,
+        p: Endpoint,
+    ) -> Walk {
+        let next = next_leg(pass.stroke.half_width, self.leg, p);
+        let b = Bend {
+            joint: joint_again(pass.stroke, self.leg, next),
+            leg: self.leg,
+            end: false,
+        };
+        Walk {
+            leg: next,
+            weave: pass_bend(v, src, t, pass.write, pass.stroke, r, self.weave, b),
+        }
+    }
 }
 
 // The points of a stretch.
@@ -78,14 +71,11 @@ pub fn pass_points(
     t: &mut [Index],
     pass: Pass,
     r: Round,
-    mut w: Walk,
+    w: Walk,
     s: Stretch,
 ) -> Walk
     requires { WeaveFits pass.write pass.stroke r w.weave (passed s.sure pass.stroke w.leg (to_pass s)) (lent v.old src.old t.old) }
     ensures { Walks pass r (passed s.entry.sure pass.stroke w.leg (to_pass s.entry)) (walked s.entry.sure pass.stroke w.leg (to_pass s.entry)) w (lent v.old src.old t.old) (lent v.new src.new t.new) result }
 {
-    for i in s.from..s.points.count() {
-        w = pass_point(v, src, t, pass, r, w, s.points.at(i), s.sure);
-    }
-    w
+    pass_stretch(v, src, t, pass, r, w, s)
 }

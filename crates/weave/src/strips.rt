@@ -7,13 +7,13 @@ ghost use Rattle.kept.specs.Held.{p0_of, p1_of, run_of};
 ghost use Rattle.strip.specs.Strip.{StripFits, start_of};
 ghost use Rattle.pieces.specs.Piece.{lent, from};
 ghost use Rattle.bends.specs.Weave.{WeaveFits, WeavePasses};
-ghost use Rattle.weave.specs.Points.{bends_of, end_bend, round_of};
+ghost use Rattle.weave.specs.Points.{bends_of, end_bend};
 ghost use Rattle.weave.specs.Walk.{opened_of, closed_of};
 
-use crate::{Walk, pass_points};
-use along::strips::first_leg;
+use crate::Walk;
 use along::Pass;
-use along::stretch::Stretch;
+use along::pen::{go_round, pass_behind};
+use along::strips::first_leg;
 use bends::{Bend, Weave, pass_bend};
 use endpoint::VertexId;
 use fans::Round;
@@ -91,26 +91,8 @@ pub fn weave_open(
         leg,
         weave: begin(pass.stroke, r, leg, base, arcs),
     };
-    let w = pass_points(v, src, t, pass, r, start, Stretch::rest(k));
+    let w = pass_behind(v, src, t, pass, r, start, k);
     finish(v, src, t, pass, r, w)
-}
-
-// Round to p0 and on to p1: the joins n-1 and 0 of a closed run.
-fn go_round(
-    v: &mut [f32],
-    src: &mut [u32],
-    t: &mut [Index],
-    pass: Pass,
-    r: Round,
-    w: Walk,
-    k: Kept,
-) -> Weave
-    requires { WeaveFits pass.write pass.stroke r w.weave (round_of pass.stroke w.leg (p0_of k) (p1_of k)) (lent v.old src.old t.old) }
-    ensures { WeavePasses pass.write pass.stroke r (round_of pass.stroke w.leg (p0_of k.entry) (p1_of k.entry)) w.weave (lent v.old src.old t.old) (lent v.new src.new t.new) result }
-{
-    let home = pass_points(v, src, t, pass, r, w, Stretch::back(k));
-    let end = pass_points(v, src, t, pass, r, home, Stretch::on(k));
-    end.weave
 }
 
 // A closed run.
@@ -134,6 +116,6 @@ pub fn weave_closed(
         due: false,
     };
     let walk = Walk { leg, weave: begun };
-    let w = pass_points(v, src, t, pass, r, walk, Stretch::rest(k));
-    go_round(v, src, t, pass, r, w, k)
+    let w = pass_behind(v, src, t, pass, r, walk, k);
+    go_round(v, src, t, pass, r, w, k).weave
 }

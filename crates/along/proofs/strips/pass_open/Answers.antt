@@ -6,14 +6,14 @@ pub begin-begun-requires : goal.begin-begun-requires
 begin-begun-requires c =
     begin_has c.args.pass.stroke _ _ _ c.first_leg-leg.ensures c.requires
 
-pub pass_points-w-requires : goal.pass_points-w-requires
-pass_points-w-requires c =
-    rw (c.rest.ensures.sure, c.rest.ensures.points) (pass_has c.args.pass.stroke _ _ _ c.first_leg-leg.ensures c.requires c.begin-begun.ensures)
+pub pass_behind-w-requires : goal.pass_behind-w-requires
+pass_behind-w-requires c =
+    pass_has c.args.pass.stroke _ _ _ c.first_leg-leg.ensures c.requires c.begin-begun.ensures
 
 pub finish-requires : goal.finish-requires
 finish-requires c =
-    finish_has c.args.pass.stroke _ _ _ c.first_leg-leg.ensures c.requires c.begin-begun.ensures (rw (c.rest.ensures.sure, c.rest.ensures.points) at c.pass_points-w.ensures)
+    finish_has c.args.pass.stroke _ _ _ c.first_leg-leg.ensures c.requires c.begin-begun.ensures c.pass_behind-w.ensures
 
 pub returns : goal.returns
 returns c =
-    open_puts c.args.pass.stroke _ _ _ c.first_leg-leg.ensures c.requires c.begin-begun.ensures (rw (c.rest.ensures.sure, c.rest.ensures.points) at c.pass_points-w.ensures) c.finish.ensures
+    open_puts c.args.pass.stroke _ _ _ c.first_leg-leg.ensures c.requires c.begin-begun.ensures c.pass_behind-w.ensures c.finish.ensures
