@@ -6,11 +6,11 @@ ghost use Rattle.lists.specs.Over.{over};
 ghost use Rattle.pieces.specs.Piece.{floats_of, sources_of, next_vertex, lent, Fits, Passes};
 ghost use Rattle.triangles.specs.Tri.{numbers_of};
 ghost use Rattle.vertices.specs.Vertex.{triangle_of};
-ghost use Rattle.arc.specs.Arc.{middle_of, arc_vertex_of, middle_piece, arc_piece, recorded, cap_piece};
+ghost use Rattle.arc.specs.Arc.{middle_of, arc_vertex_of, middle_piece, arc_piece, cap_piece};
 
 use endpoint::VertexId;
 use pieces::{Index, Place, next_vertex};
-use plane::vector::{Point, normalize, plus, square_length, times};
+use plane::vector::{Point, normalize, square_length};
 use vertices::list::{put_triangle, put_vertex};
 
 // What the vertices of an arc share: their centre, the half width, the centre's advancement, their record, and the direction that stands in where two are
@@ -32,10 +32,11 @@ pub struct End {
 }
 
 // The middle of two directions.
+#[tactic(auto, unfolding(crate::specs::Arc::middle_of))]
 pub fn middle(ahead: Point, a: Point, b: Point) -> Point
     ensures { result ≡ middle_of ahead a b }
 {
-    let sum = plus(a, b);
+    let sum = a + b;
     if square_length(sum) < 0.0001 {
         return ahead;
     }
@@ -43,6 +44,7 @@ pub fn middle(ahead: Point, a: Point, b: Point) -> Point
 }
 
 // The vertex in the direction m, with the triangle that it makes of both ends.
+#[tactic(auto, unfolding(crate::specs::Arc::arc_vertex_of))]
 fn put_middle(
     v: &mut [f32],
     src: &mut [u32],
@@ -57,7 +59,7 @@ fn put_middle(
     ensures src_after { src.new ≡ over (sources_of (arc_vertex_of hub mid.normal)) src.old }
     ensures t_after { t.new ≡ over (numbers_of (triangle_of a mid.vertex b)) t.old }
 {
-    let place = plus(hub.position, times(mid.normal, hub.half_width));
+    let place = hub.position + mid.normal * hub.half_width;
     put_vertex(v, src, place, mid.normal, hub.advancement, hub.source);
     put_triangle(t, a, mid.vertex, b);
 }
@@ -89,11 +91,10 @@ pub fn lay_middle(
         mid,
         b.vertex,
     );
-    let base = k.base;
     Place {
-        base,
         vertices: n + 1,
         triangles: k.triangles + 1,
+        ..k
     }
 }
 
@@ -123,21 +124,6 @@ pub fn lay_arc(
     lay_arc(v, src, t, second, hub, mid, b, level - 1)
 }
 
-// A hub with another record.
-fn recorded_as(hub: Hub, source: u32) -> Hub
-    ensures { result ≡ recorded hub source }
-{
-    let position = hub.position;
-    let ahead = hub.ahead;
-    Hub {
-        position,
-        half_width: hub.half_width,
-        advancement: hub.advancement,
-        source,
-        ahead,
-    }
-}
-
 // A round cap: cut by the direction ahead, then an arc to it, whose record is source, and one from it.
 pub fn lay_cap(
     v: &mut [f32],
@@ -153,12 +139,11 @@ pub fn lay_cap(
     requires { Fits true k (cap_piece level hub source (next_vertex k) a b) (lent v.old src.old t.old) }
     ensures { Passes true k (cap_piece level hub source (next_vertex k) a b) (lent v.old src.old t.old) (lent v.new src.new t.new) result }
 {
-    let ahead = hub.ahead;
     let mid = End {
         vertex: next_vertex(k),
-        normal: ahead,
+        normal: hub.ahead,
     };
-    let near = recorded_as(hub, source);
+    let near = Hub { source, ..hub };
     let first = lay_middle(v, src, t, k, hub, a, b, mid);
     let second = lay_arc(v, src, t, first, near, a, mid, level);
     lay_arc(v, src, t, second, hub, mid, b, level)

@@ -3,7 +3,7 @@
 ghost use Rattle.std.specs.Prelude.{◌≡◌};
 ghost use Rattle.join.specs.Edge.{edge_side_of, edge_of};
 
-use plane::vector::{Point, divided, length, minus, normalize, plus, times, turned};
+use plane::vector::{Point, length, normalize, turned};
 
 // One side of an edge: the points beside its two ends, and the direction from one to the other.
 #[derive(Clone, Copy)]
@@ -21,27 +21,29 @@ pub struct Edge {
     pub negative: EdgeSide,
 }
 
+#[tactic(auto, unfolding(crate::specs::Edge::edge_side_of))]
 fn edge_side(from: Point, to: Point) -> EdgeSide
     ensures { result ≡ edge_side_of from to }
 {
     EdgeSide {
-        from: from,
-        to: to,
-        v: normalize(minus(to, from)),
+        from,
+        to,
+        v: normalize(to - from),
     }
 }
 
+#[tactic(auto, unfolding(crate::specs::Edge::edge_of))]
 pub fn edge_of(from: Point, to: Point, h: f32) -> Edge
     ensures { result ≡ edge_of from to h }
 {
-    let d = minus(to, from);
-    let l = length(d);
-    let t = divided(d, l);
-    let offset = times(turned(t), h);
+    let d = to - from;
+    let length = length(d);
+    let t = d / length;
+    let offset = turned(t) * h;
     Edge {
-        length: l,
-        t: t,
-        positive: edge_side(plus(from, offset), plus(to, offset)),
-        negative: edge_side(minus(from, offset), minus(to, offset)),
+        length,
+        t,
+        positive: edge_side(from + offset, to + offset),
+        negative: edge_side(from - offset, to - offset),
     }
 }

@@ -3,6 +3,5 @@
 
 mod clip;
 pub mod edge;
-mod logic;
 pub mod record;
 mod side;

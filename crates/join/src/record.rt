@@ -5,67 +5,54 @@ ghost use Rattle.join.specs.Record.{turn_of, inner_join_of, worked_of, side_posi
 use crate::edge::Edge;
 use crate::side::{JoinSide, Turn, corner_of, decide, join_side, kind_count};
 use endpoint::{EndpointData, InnerJoin, Side, side_count};
-use plane::vector::plus;
 
 // prev and next are the advancements of the endpoints before and after a join: as in the source, an edge is as long as its ends'
 // advancements differ.
+#[tactic(auto, unfolding(crate::specs::Record::turn_of))]
 fn turn_of(before: Edge, join: EndpointData, after: Edge, prev: f32, next: f32, limit: f32) -> Turn
     ensures { result ≡ turn_of before join after prev next limit }
 {
-    let position = join.position;
-    let line_join = join.line_join;
     Turn {
-        position: position,
+        position: join.position,
         half_width: join.half_width,
-        limit: limit,
+        limit,
         before: join.advancement - prev,
         after: next - join.advancement,
-        along: plus(before.t, after.t),
-        line_join: line_join,
+        along: before.t + after.t,
+        line_join: join.line_join,
     }
 }
 
 // Which sides are inner joins.
+#[tactic(auto, unfolding(crate::specs::Record::inner_join_of))]
 fn inner_join_of(positive: bool, negative: bool) -> InnerJoin
     ensures { result ≡ inner_join_of positive negative }
 {
-    if positive {
-        return if negative {
-            InnerJoin::Both
-        } else {
-            InnerJoin::Positive
-        };
+    match (positive, negative) {
+        (true, true) => InnerJoin::Both,
+        (true, false) => InnerJoin::Positive,
+        (false, true) => InnerJoin::Negative,
+        (false, false) => InnerJoin::Neither,
     }
-    if negative {
-        return InnerJoin::Negative;
-    }
-    InnerJoin::Neither
 }
 
 // The record with its sides set.
 fn worked(join: EndpointData, p: JoinSide, n: JoinSide) -> EndpointData
     ensures { result ≡ worked_of join p n }
 {
-    let position = join.position;
-    let kind = join.line_join;
-    let id = join.id;
-    let positive = p.points;
-    let negative = n.points;
     EndpointData {
-        position: position,
-        half_width: join.half_width,
-        advancement: join.advancement,
-        line_join: kind,
-        id: id,
-        positive: positive,
-        negative: negative,
+        positive: p.points,
+        negative: n.points,
         fold_positive: p.fold,
         fold_negative: n.fold,
         inner_join: inner_join_of(p.inner, n.inner),
+        ..join
     }
 }
 
-// lyon's `compute_join_side_positions`, for both sides: each is decided and worked.
+// lyon's `compute_join_side_positions`, for both sides: each is decided and worked. A function of one side
+// would be called and not copied in: a join took 59 instructions more.
+#[tactic(auto, unfolding(crate::specs::Record::side_positions_of))]
 pub fn compute_join_side_positions(
     before: Edge,
     join: EndpointData,
@@ -77,17 +64,17 @@ pub fn compute_join_side_positions(
     ensures { result ≡ side_positions_of before join after prev next limit }
 {
     let e = turn_of(before, join, after, prev, next, limit);
-    let bp = before.positive;
-    let ap = after.positive;
-    let bn = before.negative;
-    let an = after.negative;
+    let (bp, ap) = (before.positive, after.positive);
+    let (bn, an) = (before.negative, after.negative);
     let p = join_side(corner_of(bp, ap, Side::Positive), bp.to, ap.from, e);
     let n = join_side(corner_of(bn, an, Side::Negative), bn.to, an.from, e);
     worked(join, p, n)
 }
 
-// The same for the pass that weaves arcs in. What one place alone calls the compiler copies in there: so the pass along a strip keeps the whole of a point's work in one
-// function, and a point of a stroke that is not round costs what it did.
+// The same for the pass that weaves arcs in. What one place alone calls the compiler copies in there: so
+// the pass along a strip keeps the whole of a point's work in one function, and a point of a stroke that
+// is not round costs what it did (docs/SPEED.md).
+#[tactic(auto, unfolding(crate::specs::Record::side_positions_of))]
 pub fn rejoin(
     before: Edge,
     join: EndpointData,
@@ -99,30 +86,27 @@ pub fn rejoin(
     ensures { result ≡ side_positions_of before join after prev next limit }
 {
     let e = turn_of(before, join, after, prev, next, limit);
-    let bp = before.positive;
-    let ap = after.positive;
-    let bn = before.negative;
-    let an = after.negative;
+    let (bp, ap) = (before.positive, after.positive);
+    let (bn, an) = (before.negative, after.negative);
     let p = join_side(corner_of(bp, ap, Side::Positive), bp.to, ap.from, e);
     let n = join_side(corner_of(bn, an, Side::Negative), bn.to, an.from, e);
     worked(join, p, n)
 }
 
 // How many points the sides of a join have.
-#[derive(Drop)]
+#[derive(Clone, Copy)]
 pub struct Counts {
     pub positive: usize,
     pub negative: usize,
 }
 
+#[tactic(auto, unfolding(crate::specs::Record::counts_of))]
 pub fn counts_of(e: EndpointData) -> Counts
     ensures { result ≡ counts_of e }
 {
-    let positive = e.positive;
-    let negative = e.negative;
     Counts {
-        positive: side_count(positive),
-        negative: side_count(negative),
+        positive: side_count(e.positive),
+        negative: side_count(e.negative),
     }
 }
 
@@ -146,10 +130,8 @@ pub fn count_join(
         corner_of(before.negative, after.negative, Side::Negative),
         e,
     );
-    let positive = p.kind;
-    let negative = n.kind;
     Counts {
-        positive: kind_count(positive),
-        negative: kind_count(negative),
+        positive: kind_count(p.kind),
+        negative: kind_count(n.kind),
     }
 }

@@ -7,17 +7,18 @@ ghost use Rattle.vertices.specs.Base.{base_vertex_of, side_points_of, side_verti
 
 use crate::list::put_vertex;
 use endpoint::{EndpointData, Side, SidePoints, source_of};
-use plane::vector::{Point, divided, minus, plus, times};
+use plane::vector::Point;
 
 // The vertex of a point beside e: its normal is (point - position)/h, its place position + normal*h.
+#[tactic(auto, unfolding(crate::specs::Base::base_vertex_of))]
 fn put_base_vertex(v: &mut [f32], src: &mut [u32], e: EndpointData, side: Side, x: f32, y: f32)
     requires { (5 ≤ length v.old) × (1 ≤ length src.old) × (e.id.0 < id_limit) }
     ensures v_after { v.new ≡ over (floats_of (base_vertex_of e side x y)) v.old }
     ensures src_after { src.new ≡ over (sources_of (base_vertex_of e side x y)) src.old }
 {
-    let point = Point { x: x, y: y };
-    let normal = divided(minus(point, e.position), e.half_width);
-    let place = plus(e.position, times(normal, e.half_width));
+    let point = Point { x, y };
+    let normal = (point - e.position) / e.half_width;
+    let place = e.position + normal * e.half_width;
     let source = source_of(e.id, side);
     put_vertex(v, src, place, normal, e.advancement, source);
 }

@@ -8,9 +8,10 @@ ghost use Rattle.vertices.specs.Cap.{cap_vertex_of, cap_pair_of, cap_vertices_of
 use crate::list::{put_triangle, put_vertex};
 use endpoint::{Endpoint, Side, VertexId, source_of, vertex_after};
 use pieces::Index;
-use plane::vector::{Point, plus, times};
+use plane::vector::Point;
 
 // A corner: its normal is the direction itself, and its side the source's.
+#[tactic(auto, unfolding(crate::specs::Cap::cap_vertex_of))]
 pub fn put_corner(
     v: &mut [f32],
     src: &mut [u32],
@@ -25,8 +26,8 @@ pub fn put_corner(
     ensures v_after { v.new ≡ over (floats_of (cap_vertex_of e h a side x y)) v.old }
     ensures src_after { src.new ≡ over (sources_of (cap_vertex_of e h a side x y)) src.old }
 {
-    let normal = Point { x: x, y: y };
-    let place = plus(e.position, times(normal, h));
+    let normal = Point { x, y };
+    let place = e.position + normal * h;
     put_vertex(v, src, place, normal, a, source_of(e.id, side));
 }
 

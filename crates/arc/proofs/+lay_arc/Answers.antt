@@ -14,9 +14,6 @@ pub returns-then-level-eq0 : goal.returns-then-level-eq0
 unfolding arc_vertices arc_normals arc_triangles
 returns-then-level-eq0 t c = rw c.if-level-eq0.true puts_none
 
-pub next_vertex-requires : goal.next_vertex-requires
-next_vertex-requires t c = omega (arith, c.requires.numbers)
-
 pub lay_middle-first-requires : goal.lay_middle-first-requires
 lay_middle-first-requires t c =
     let a = c.args in

@@ -1,34 +1,11 @@
 -- `vertices::base::put_side` meets its contract. Assumes nothing.
 use mathlib.Core.Path.{refl, ap}
 use native.Mathlib.Omega.{arith}
-use lib.ListN.{length-take, length-drop}
 use Rattle.endpoint.specs.Endpoint.{side_count_of}
 use Rattle.lists.specs.Over.{flat}
 use Rattle.lists.proofs.Parts.{behind}
 use Rattle.vertices.specs.Base.{side_vertices_of}
 use Rattle.vertices.proofs.base.put_side.Goals as goal
-
-pub put_base_vertex-requires : goal.put_base_vertex-requires
-put_base_vertex-requires c = omega (arith, ap side_count_of c.in-Single.is, c.requires)
-
-pub put_base_vertex-requires-in-Pair : goal.put_base_vertex-requires-in-Pair
-put_base_vertex-requires-in-Pair c = omega (arith, ap side_count_of c.in-Pair.is, c.requires)
-
-pub slice_bounds-put_base_vertex-count : goal.slice_bounds-put_base_vertex-count
-slice_bounds-put_base_vertex-count c =
-    omega (arith, ap side_count_of c.in-Pair.is, c.requires)
-
-pub slice_bounds-put_base_vertex-start : goal.slice_bounds-put_base_vertex-start
-slice_bounds-put_base_vertex-start c =
-    omega (arith, ap side_count_of c.in-Pair.is, c.requires)
-
-pub slice_bounds-put_base_vertex-count-in-Pair : goal.slice_bounds-put_base_vertex-count-in-Pair
-slice_bounds-put_base_vertex-count-in-Pair c =
-    omega (arith, ap side_count_of c.in-Pair.is, c.requires)
-
-pub put_base_vertex-requires-in-Pair-2 : goal.put_base_vertex-requires-in-Pair-2
-put_base_vertex-requires-in-Pair-2 c =
-    simp (length-take, length-drop) (omega (arith, ap side_count_of c.in-Pair.is, c.requires))
 
 pub returns-in-Single : goal.returns-in-Single
 unfolding side_vertices_of flat
