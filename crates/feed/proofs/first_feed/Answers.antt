@@ -2,4 +2,4 @@
 use Rattle.feed.proofs.first_feed.Goals as goal
 
 pub returns : goal.returns
-returns c = rw (c.spot_of-s.ensures, c.endpoint_at-p1.ensures, c.endpoint_at-p0.ensures)
+returns c = rw (c.spot_of.ensures, c.endpoint_at-p1.ensures, c.endpoint_at-p0.ensures)
