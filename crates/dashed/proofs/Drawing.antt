@@ -30,7 +30,7 @@ use Rattle.woven.proofs.Runs.{drawn}
 use Rattle.plait.proofs.Rounds.{round_none}
 use Rattle.dashes.specs.Dashes.{dashes_from}
 use Rattle.feed.specs.Feed.{WellNumbered, comes}
-use Rattle.feed.specs.Trail.{dash_points, trail_points, trail_behind, trail_dashes, Follows, TrailFits, DashBegins, Begins}
+use Rattle.feed.specs.Trail.{dash_points, trail_behind, trail_dashes, Follows, TrailFits, DashBegins, Begins}
 use Rattle.feed.specs.declared.trail.Trail.{Trail}
 use Rattle.feed.proofs.Trailing.{dashes_split, trail_counted}
 use Rattle.dashed.proofs.Following.{fits_numbered}

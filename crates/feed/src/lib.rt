@@ -6,7 +6,7 @@
 
 pub mod trail;
 
-ghost use Rattle.std.specs.Prelude.{◌≡◌, ◌+◌, ◌*◌, ◌≤◌, ◌<◌, length};
+ghost use Rattle.std.specs.Prelude.{◌≡◌, ◌+◌, ◌*◌, ◌/◌, ◌≤◌, ◌<◌, length, MatchOption};
 ghost use Rattle.endpoint.specs.Endpoint.{id_limit};
 ghost use Rattle.feed.specs.Feed.{NextFar, Turns, FeedFits, Feeds, first_feed};
 
@@ -31,19 +31,17 @@ pub struct Fed {
     pub feed: Option<Feed>,
 }
 
-// The first point from the one at i on that is not near a, or the number of points.
-fn next_far(near: f32, p: &[f32], first: EndpointId, a: Endpoint, i: usize) -> usize
+// The first point from the one at i on that is not near a.
+fn next_far(near: f32, p: &[f32], first: EndpointId, a: Endpoint, i: usize) -> Option<usize>
     requires { (2 * i ≤ length p.now) × (first.0 + length p.now < id_limit) }
-    ensures { NextFar near p.now first.0 a i result }
+    ensures { MatchOption result (NextFar near p.now first.0 a i (length p.now / 2)) (λ j. NextFar near p.now first.0 a i j × (j < length p.now / 2)) }
 {
-    let end = p.len() / 2;
-    for j in i..end {
-        let c = endpoint_at(p, first, j);
-        if !is_near(near, a.position, c.position) {
-            return j;
+    for j in i..p.len() / 2 {
+        if !is_near(near, a.position, endpoint_at(p, first, j).position) {
+            return Some(j);
         }
     }
-    end
+    None
 }
 
 // Past a corner, onto the next edge.
@@ -51,22 +49,19 @@ fn turn(near: f32, p: &[f32], first: EndpointId, f: Feed) -> Option<Feed>
     requires { (2 ≤ length p.now) × (2 * f.next ≤ length p.now) × (first.0 + length p.now < id_limit) }
     ensures { Turns near p.now first.0 f result }
 {
-    let i = next_far(near, p, first, f.spot.to, f.next);
-    if i < p.len() / 2 {
-        return Some(Feed {
+    match next_far(near, p, first, f.spot.to, f.next) {
+        Some(i) => Some(Feed {
             spot: turned(f.spot, endpoint_at(p, first, i)),
             next: i + 1,
             ..f
-        });
-    }
-    if f.closes {
-        return Some(Feed {
+        }),
+        None if f.closes => Some(Feed {
             spot: turned(f.spot, endpoint_at(p, first, 0)),
-            next: i,
+            next: p.len() / 2,
             closes: false,
-        });
+        }),
+        None => None,
     }
-    None
 }
 
 pub fn next_fed(near: f32, p: &[f32], first: EndpointId, ds: &[f32], f: Feed) -> Fed

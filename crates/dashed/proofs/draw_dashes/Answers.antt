@@ -12,9 +12,6 @@ draw_next-d-requires c =
     let s = rw c.in-Some.is at c.loop-next.invariant.0 in
     record { trail_fits = s.fits.fits; detail_bound = c.requires.ds_nonzero.2; fits = drawing_fits _ _ _ _ _ _ s c.requires.fits }
 
-pub next_dash-next-requires : goal.next_dash-next-requires
-next_dash-next-requires c = c.draw_next-d.ensures.leaves.fits
-
 pub loop-next-smaller : goal.loop-next-smaller
 loop-next-smaller c =
     let s = rw c.in-Some.is at c.loop-next.invariant.0 in

@@ -1,6 +1,6 @@
 -- `dashed::draw_line` meets its contract. Assumes nothing.
 use mathlib.Core.Bool.{false, ◌||◌}
-use mathlib.Core.Path.{◌≡◌, sym, ◌∙◌}
+use mathlib.Core.Path.{◌≡◌}
 use Rattle.woven.proofs.Runs.{strip_fits, arcs_fit}
 use Rattle.dashed.proofs.Following.{fits_numbered}
 use Rattle.dashed.proofs.Drawing.{line_plain, line_round}
@@ -21,5 +21,5 @@ returns-then-r-2 c =
 
 pub returns-else-r-2 : goal.returns-else-r-2
 returns-else-r-2 c =
-    let plain : (c.args.r.joins || c.args.r.caps) ≡ false = elim c.if-r.branch [ then-r w ↦ rw w.if-r.true (sym w.value-is ∙ c.if-r-2.false) | else-r w ↦ rw w.if-r.false (sym w.value-is ∙ c.if-r-2.false) ] in
+    let plain : (c.args.r.joins || c.args.r.caps) ≡ false = elim c.if-r.branch [ then-r w ↦ rw w.if-r.true (cc) | else-r w ↦ rw w.if-r.false (cc) ] in
     line_plain c.args.pass c.args.r _ _ _ c.args.d c.requires.dash_fits c.strip_dash-s.ensures plain

@@ -14,11 +14,11 @@ use Rattle.feed.proofs.next_far.Goals as goal
 -- the answer of `is_near`, told of the definitions
 told : (c : After-is_near) → let a = c.args in
     near a.near a.a (endpoint_at a.p.now a.first.0 c.loop-j.j) ≡ c.is_near.result
-told c = rw c.endpoint_at-c.ensures at (sym c.is_near.ensures)
+told c = rw c.endpoint_at.ensures at (sym c.is_near.ensures)
 
 pub returns-then-not-is_near : goal.returns-then-not-is_near
 returns-then-not-is_near c =
-    record { within = omega arith; kept = c.loop-j.invariant; far = λ h. told (goal.at.returns-then-not-is_near c).After-is_near ∙ c.if-not-is_near.true }
+    (record { within = omega arith; kept = c.loop-j.invariant; far = λ h. told (goal.at.returns-then-not-is_near c).After-is_near ∙ c.if-not-is_near.true }, omega arith)
 
 pub loop-j-preserved : goal.loop-j-preserved
 loop-j-preserved c =

@@ -1,7 +1,6 @@
 -- `dashed::strips::strip_on` meets its contract. The plan: `Stripping` says how far the dash has come, point by point. Assumes nothing.
 use borrow.Author.Rules.{rules}
 use mathlib.Core.Path.{refl}
-use Rattle.dashed.proofs.Following.{fewer_on}
 use Rattle.dashed.proofs.Stripping.{stripping_none, turn_counted, turn_has, turn, end_has, end}
 use Rattle.dashed.proofs.strips.strip_on.Goals as goal
 
@@ -13,9 +12,6 @@ strip_one-w-requires c =
     let s = c.loop-q.invariant.0 in
     let f = c.in-Some.ensures in
     record { well_numbered = turn_counted _ _ _ _ s _ _ f; strip_fits = turn_has _ _ _ _ s _ _ f c.requires.strip_fits }
-
-pub loop-q-smaller : goal.loop-q-smaller
-loop-q-smaller c = fewer_on _ _ _ _ _ _ _ c.in-Some.ensures
 
 pub loop-q-preserved : goal.loop-q-preserved
 loop-q-preserved c =

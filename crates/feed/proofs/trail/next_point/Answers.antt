@@ -2,12 +2,9 @@
 use mathlib.Core.Logic.{inl, inr}
 use mathlib.Core.Path.{◌≡◌, refl, sym, ◌∙◌}
 use Rattle.std.specs.Prelude.{None}
-use Rattle.feed.proofs.Trailing.{going_near, going_far, going_end, fewer}
+use Rattle.feed.proofs.Trailing.{going_near, going_far, going_end}
 use Rattle.feed.proofs.trail.next_point.Goals.{in-Cut, in-Corner}
 use Rattle.feed.proofs.trail.next_point.Goals as goal
-
-pub loop-t-init : goal.loop-t-init
-loop-t-init c = record { points = refl; behind = refl; fits = c.requires }
 
 pub returns-then-not-is_near : goal.returns-then-not-is_near
 returns-then-not-is_near c =
@@ -16,13 +13,6 @@ returns-then-not-is_near c =
     elim c.match-m.branch [
       | in-Cut w ↦ rw (w.t-is, w.q-is) (going_far _ _ _ _ _ _ l.invariant _ c.loop-t-test.true c.in-Some.is _ c.next_fed-m.ensures _ _ (inl (w.in-Cut.is, refl)) (rw (w.t-is, w.q-is) at far))
       | in-Corner w ↦ rw (w.t-is, w.q-is) (going_far _ _ _ _ _ _ l.invariant _ c.loop-t-test.true c.in-Some.is _ c.next_fed-m.ensures _ _ (inr (w.in-Corner.is, c.loop-t-test.true)) (rw (w.t-is, w.q-is) at far))
-    ]
-
-pub loop-t-smaller : goal.loop-t-smaller
-loop-t-smaller c =
-    elim c.match-m.branch [
-      | in-Cut w ↦ rw w.t-is (fewer _ _ _ _ _ _ c.in-Some.is _ c.next_fed-m.ensures)
-      | in-Corner w ↦ rw w.t-is (fewer _ _ _ _ _ _ c.in-Some.is _ c.next_fed-m.ensures)
     ]
 
 pub loop-t-preserved : goal.loop-t-preserved
