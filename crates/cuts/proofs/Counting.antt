@@ -17,7 +17,9 @@ use Rattle.kept.proofs.Further.{keep_near, keep_far}
 use Rattle.kept.proofs.Looks.{kept_far, kept_alone, kept_ended}
 use Rattle.dashes.specs.Counts.{EdgeCounted}
 use Rattle.dashes.specs.Pattern.{wear_limit}
-use Rattle.dashes.specs.Marks.{Mark, Corner, falls_on, passed_of, spot_of, turned_of, cuts_on, behind, cut_limit, cuts_enough, cut_marks, marks_from, marks_of}
+use Rattle.dashes.specs.Marks.{falls_on, passed_of, spot_of, turned_of, cuts_on, behind, cut_limit, cuts_enough, cut_marks, marks_from, marks_of}
+use Rattle.dashes.specs.declared.spot.Mark.{Mark}
+use Rattle.dashes.specs.declared.spot.Mark.TheVariants.{Corner}
 use Rattle.dashes.specs.declared.pattern.Beat.{Beat}
 use Rattle.dashes.specs.declared.spot.Spot.{Spot}
 use Rattle.dashes.specs.declared.count.Passed.{Passed}

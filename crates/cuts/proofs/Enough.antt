@@ -9,7 +9,9 @@ use native.Mathlib.Omega.{arith}
 use lib.Ieee.{Float}
 use lib.ListN.{length}
 use Rattle.endpoint.specs.declared.Endpoint.{Endpoint}
-use Rattle.dashes.specs.Marks.{Mark, Cut, Corner, falls_on, cut_of, passed_of, turned_of, cuts_on, behind, cut_limit, cuts_enough, cut_marks, marks_from}
+use Rattle.dashes.specs.Marks.{falls_on, cut_of, passed_of, turned_of, cuts_on, behind, cut_limit, cuts_enough, cut_marks, marks_from}
+use Rattle.dashes.specs.declared.spot.Mark.{Mark}
+use Rattle.dashes.specs.declared.spot.Mark.TheVariants.{Cut, Corner}
 use Rattle.dashes.specs.declared.spot.Spot.{Spot}
 use Rattle.cuts.specs.Cuts.{cut_count}
 use Rattle.cuts.proofs.Counting.{count_append}

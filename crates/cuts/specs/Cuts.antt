@@ -5,7 +5,9 @@ use Rattle.path.specs.Runs.{Run, runs_from}
 use Rattle.kept.specs.Kept.{kept_points}
 use Rattle.kept.specs.Points.{endpoints_of}
 use Rattle.dashes.specs.Pattern.{worn_of, first_cut}
-use Rattle.dashes.specs.Marks.{Mark, Cut, Corner, marks_of, cut_limit, cuts_enough}
+use Rattle.dashes.specs.Marks.{marks_of, cut_limit, cuts_enough}
+use Rattle.dashes.specs.declared.spot.Mark.{Mark}
+use Rattle.dashes.specs.declared.spot.Mark.TheVariants.{Cut, Corner}
 use Rattle.dashes.specs.declared.pattern.Beat.{Beat}
 
 -- how many of a run's marks are cuts

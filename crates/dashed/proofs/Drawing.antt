@@ -2,11 +2,12 @@
 -- that it is lent; then the dashes one behind the other (`Drawing`). Assumes nothing.
 use Prim.Native.Nat.{ℕ, ◌+◌, ◌-◌, ◌*◌, ◌<◌}
 use mathlib.Core.Path.{◌≡◌, sym, ap, ◌∙◌, subst}
-use mathlib.Core.Bool.{true, false, ◌||◌, cond}
+use mathlib.Core.Bool.{false, ◌||◌, cond}
 use mathlib.Core.List.{List, [], ◌∷◌, append-nil, append_assoc}
 use native.Mathlib.Omega.{arith}
 use borrow.Rule.Slice.PartMut.{mid_of, put_mid}
 use lib.Ieee.{Float}
+use Rattle.std.specs.Prelude.{Option, Some, None, MatchOption, ⊤}
 use lib.ListN.{length}
 use Rattle.endpoint.specs.Endpoint.{id_limit, vertex_after}
 use Rattle.endpoint.specs.declared.Endpoint.{Endpoint}
@@ -29,8 +30,7 @@ use Rattle.woven.proofs.Runs.{drawn}
 use Rattle.plait.proofs.Rounds.{round_none}
 use Rattle.dashes.specs.Dashes.{dashes_from}
 use Rattle.feed.specs.Feed.{WellNumbered, comes}
-use Rattle.feed.specs.Trail.{dash_points, trail_points, trail_behind, trail_dashes, Follows, TrailFits, Begins}
-use Rattle.feed.specs.declared.trail.Next.{Next}
+use Rattle.feed.specs.Trail.{dash_points, trail_behind, trail_dashes, Follows, TrailFits, DashBegins, Begins}
 use Rattle.feed.specs.declared.trail.Trail.{Trail}
 use Rattle.feed.proofs.Trailing.{dashes_split, trail_counted}
 use Rattle.dashed.proofs.Following.{fits_numbered}
@@ -68,28 +68,27 @@ module _ (pass : Pass) (r : Round) (p : List Float) (first : ℕ) (ds : List Flo
     line_round h g = record { puts = drawn false o r base kept h (fits_numbered f) e.strip g; leaves = e.leaves }
 
   -- ---- a dash from its first point
-  module _ (t : Trail) (w : TrailFits o.near p first ds t) (n : Next) (e : Follows o.near p first ds t n) where
-    module _ (found : n.found ≡ true) where
-      kept_is : trail_kept o.near p first ds t ≡ dash_kept o.near p first ds (record { from = t.last; trail = n.trail })
-      kept_is = ap (λ (qs : List Endpoint). t.last ∷ qs) e.points ∙ rw found
+  module _ (t : Trail) (w : TrailFits o.near p first ds t) where
+    module _ (q : Endpoint) (u : Trail) (e : Follows o.near p first ds t (Some q) u) where
+      kept_is : trail_kept o.near p first ds t ≡ dash_kept o.near p first ds (record { from = t.last; trail = u })
+      kept_is = rw (e.points, e.last)
 
-      pub dash_fits : DashFits o.near p first ds (record { from = t.last; trail = n.trail })
+      pub dash_fits : DashFits o.near p first ds (record { from = t.last; trail = u })
       dash_fits = record { feed = e.fits; numbered = subst (All WellNumbered) kept_is (trail_counted o.near p first ds t w) }
 
-      pub piece_is : (base : VertexId) → dash_piece o r base (trail_kept o.near p first ds t) ≡ round_piece false o r base (dash_kept o.near p first ds (record { from = t.last; trail = n.trail }))
+      pub piece_is : (base : VertexId) → dash_piece o r base (trail_kept o.near p first ds t) ≡ round_piece false o r base (dash_kept o.near p first ds (record { from = t.last; trail = u }))
       unfolding dash_piece
       piece_is base = rw kept_is
 
-      pub dash_draws : {base : VertexId} {l l1 : Lists} {q : Drawn}
-          → Draws pass p first ds n.trail (from base) (round_piece false o r base (dash_kept o.near p first ds (record { from = t.last; trail = n.trail }))) l l1 q
-          → Draws pass p first ds t (from base) (dash_piece o r base (trail_kept o.near p first ds t)) l l1 q
-      dash_draws {base} g = record { puts = rw (piece_is base) g.puts; leaves = record { behind = g.leaves.behind ∙ sym (e.behind ∙ rw found); fits = g.leaves.fits } }
+      pub dash_draws : {base : VertexId} {l l1 : Lists} {d : Drawn}
+          → Draws pass p first ds u (from base) (round_piece false o r base (dash_kept o.near p first ds (record { from = t.last; trail = u }))) l l1 d
+          → Draws pass p first ds t (from base) (dash_piece o r base (trail_kept o.near p first ds t)) l l1 d
+      dash_draws {base} g = record { puts = rw (piece_is base) g.puts; leaves = record { behind = g.leaves.behind ∙ sym e.behind; fits = g.leaves.fits } }
 
-    pub dot_draws : n.found ≡ false → (base : VertexId) (l : Lists) → Draws pass p first ds t (from base) (dash_piece o r base (trail_kept o.near p first ds t)) l l (record { place = from base; feed = n.trail.feed })
+    pub dot_draws : (u : Trail) → Follows o.near p first ds t None u → (base : VertexId) (l : Lists)
+        → Draws pass p first ds t (from base) (dash_piece o r base (trail_kept o.near p first ds t)) l l (record { place = from base; feed = u.feed })
     unfolding dash_piece
-    dot_draws found base l =
-        let z : trail_points o.near p first ds t ≡ [] = e.points ∙ rw found in
-        record { puts = rw z puts_none; leaves = record { behind = sym (e.behind ∙ rw found); fits = e.fits } }
+    dot_draws u e base l = record { puts = rw e.points puts_none; leaves = record { behind = sym e.behind; fits = e.fits } }
 
   -- ---- in the parts of the lists that begin at a, b and c, whose first vertex has the number `vertex`
   module _ (t : Trail) (k : Place) {v : List Float} {src tri : List ℕ} {a b c : ℕ} {vertex : VertexId} (ea : a ≡ cond pass.write (5 * k.vertices) 0) (eb : b ≡ cond pass.write k.vertices 0)
@@ -112,32 +111,32 @@ module _ (pass : Pass) (r : Round) (p : List Float) (first : ℕ) (ds : List Flo
       part_draws = record { puts = rw (ea, eb, ec) (parts_put k (next_piece pass r p first ds t k) v src tri pass.write h v1 src1 tri1 q.place (rw (ea, eb, ec) at puts)); leaves = e.leaves }
 
   -- ---- the dashes one behind the other: of the whole, at the place k the dashes of the trail t are to come
-  pub record Drawing (k0 : Place) (whole : Piece) (l0 : Lists) (k : Place) (t : Trail) (l : Lists) : Type 0 where
+  pub record Drawing (k0 : Place) (whole : Piece) (l0 : Lists) (k : Place) (t : Option Trail) (l : Lists) : Type 0 where
     pub done : Piece
     pub split : whole ≡ joined done (dashes_piece o r (anew k).base (trail_dashes o.near p first ds t))
     pub puts : Passes pass.write k0 done l0 l k
-    pub fits : TrailFits o.near p first ds t
+    pub fits : MatchOption t ⊤ (DashBegins o.near p first ds)
 
-  pub drawing_none : (base : VertexId) (l : Lists) (t : Trail) (all : List (List Endpoint)) → all ≡ trail_dashes o.near p first ds t → TrailFits o.near p first ds t
+  pub drawing_none : (base : VertexId) (l : Lists) (t : Option Trail) (all : List (List Endpoint)) → all ≡ trail_dashes o.near p first ds t → MatchOption t ⊤ (DashBegins o.near p first ds)
       → Drawing (from base) (dashes_piece o r base all) l (from base) t l
   drawing_none base l t all e f =
       let z : base.0 + 0 ≡ base.0 = omega arith in
       record { done = none; split = rw (e, z); puts = puts_none; fits = f }
 
-  module _ {k0 : Place} {whole : Piece} {l0 : Lists} {k : Place} {t : Trail} {l : Lists} (s : Drawing k0 whole l0 k t l) where
-    module _ (on : t.on ≡ true) where
+  module _ {k0 : Place} {whole : Piece} {l0 : Lists} {k : Place} {l : Lists} where
+    module _ (t : Trail) (s : Drawing k0 whole l0 k (Some t) l) where
       abbrev next : Piece
       next = next_piece pass r p first ds t k
 
       abbrev rest : Piece
       rest = dashes_piece o r (vertex_after (anew k).base (length next.vertices)) (dashes_from false [] (trail_behind o.near p first ds t))
 
-      dashes_are : trail_dashes o.near p first ds t ≡ (t.last ∷ dash_points (comes o.near p first ds t.feed)) ∷ dashes_from false [] (trail_behind o.near p first ds t)
-      dashes_are = rw on (dashes_split t.last (comes o.near p first ds t.feed))
+      dashes_are : trail_dashes o.near p first ds (Some t) ≡ (t.last ∷ dash_points (comes o.near p first ds t.feed)) ∷ dashes_from false [] (trail_behind o.near p first ds t)
+      dashes_are = rw s.fits.on (dashes_split t.last (comes o.near p first ds t.feed))
 
-      first_is : dashes_piece o r (anew k).base (trail_dashes o.near p first ds t) ≡ joined next rest
+      first_is : dashes_piece o r (anew k).base (trail_dashes o.near p first ds (Some t)) ≡ joined next rest
       unfolding dashes_piece kept_points
-      first_is = rw (dashes_are, on)
+      first_is = rw (dashes_are, s.fits.on)
 
       split_on : whole ≡ joined s.done (joined next rest)
       split_on = s.split ∙ ap (joined s.done) first_is
@@ -145,28 +144,24 @@ module _ (pass : Pass) (r : Round) (p : List Float) (first : ℕ) (ds : List Flo
       pub drawing_fits : Fits pass.write k0 whole l0 → Fits pass.write k next l
       drawing_fits h = fits_front next rest (fits_back s.done (joined next rest) (rw split_on at h) s.puts)
 
-      module _ {l1 : Lists} {q : Drawn} (e : Draws pass p first ds t k next l l1 q) where
-        pub gap_fits : TrailFits o.near p first ds (record { last = t.last; on = false; feed = q.feed })
-        gap_fits = record { last = s.fits.last; feed = e.leaves.fits }
+      module _ {l1 : Lists} {q : Drawn} (e : Draws pass p first ds t k next l l1 q) (u : Option Trail) (g : Begins o.near p first ds q.feed u) where
+        behind_are : dashes_from false [] (trail_behind o.near p first ds t) ≡ trail_dashes o.near p first ds u
+        behind_are = ap (dashes_from false []) (sym e.leaves.behind) ∙ g.dashes
 
-        module _ (u : Trail) (g : Begins o.near p first ds q.feed u) where
-          behind_are : dashes_from false [] (trail_behind o.near p first ds t) ≡ trail_dashes o.near p first ds u
-          behind_are = ap (dashes_from false []) (sym e.leaves.behind) ∙ g.dashes
+        pub fewer : length (trail_dashes o.near p first ds u) < length (trail_dashes o.near p first ds (Some t))
+        fewer = rw (dashes_are, behind_are) (omega arith)
 
-          pub fewer : length (trail_dashes o.near p first ds u) < length (trail_dashes o.near p first ds t)
-          fewer = rw (dashes_are, behind_are) (omega arith)
+        pub drawing_turn : Drawing k0 whole l0 q.place u l1
+        drawing_turn = record {
+          done = joined s.done next;
+          split = split_on ∙ sym (joined_assoc s.done next rest) ∙ rw (behind_are, e.puts.place, number);
+          puts = puts_both s.puts e.puts;
+          fits = g.fits;
+        }
+          where
+            number : k.base.0 + (k.vertices + length next.vertices) ≡ k.base.0 + k.vertices + length next.vertices
+            number = omega arith
 
-          pub drawing_turn : Drawing k0 whole l0 q.place u l1
-          drawing_turn = record {
-            done = joined s.done next;
-            split = split_on ∙ sym (joined_assoc s.done next rest) ∙ rw (behind_are, e.puts.place, number);
-            puts = puts_both s.puts e.puts;
-            fits = g.fits;
-          }
-            where
-              number : k.base.0 + (k.vertices + length next.vertices) ≡ k.base.0 + k.vertices + length next.vertices
-              number = omega arith
-
-    pub drawing_all : t.on ≡ false → Passes pass.write k0 whole l0 l k
+    pub drawing_all : Drawing k0 whole l0 k None l → Passes pass.write k0 whole l0 l k
     unfolding dashes_piece
-    drawing_all off = rw (s.split, off, joined_none s.done) s.puts
+    drawing_all s = rw (s.split, joined_none s.done) s.puts

@@ -5,6 +5,7 @@ use mathlib.Core.Path.{◌≡◌, refl, sym, ◌∙◌}
 use mathlib.Core.Bool.{true, false}
 use mathlib.Core.List.{List, [], ◌∷◌, ◌++◌}
 use lib.Ieee.{Float}
+use Rattle.std.specs.Prelude.{Some, None}
 use Rattle.endpoint.specs.declared.Endpoint.{Endpoint}
 use Rattle.endpoint.specs.declared.EndpointData.{EndpointData}
 use Rattle.endpoint.specs.declared.VertexId.{VertexId}
@@ -23,12 +24,11 @@ use Rattle.along.specs.Walk.{Walks}
 use Rattle.along.specs.declared.Pass.{Pass}
 use Rattle.along.specs.declared.Walk.{Walk}
 use Rattle.feed.specs.Feed.{WellNumbered, FeedFits}
-use Rattle.feed.specs.Trail.{trail_points, next_points, next_behind, Follows}
-use Rattle.feed.specs.declared.trail.Next.{Next}
+use Rattle.feed.specs.Trail.{trail_points, trail_behind, Follows}
 use Rattle.feed.specs.declared.trail.Trail.{Trail}
 use Rattle.dashed.specs.Passes.{Strips}
 use Rattle.dashed.specs.declared.strips.Stripped.{Stripped}
-use Rattle.dashed.proofs.Following.{behind_on, counted_on, counted_here, points_none, behind_none}
+use Rattle.dashed.proofs.Following.{counted_here, counted_on}
 
 joints_on : (o : Stroke) (leg : Leg) (q : Endpoint) (qs : List Endpoint) → joints_from false o leg (q ∷ qs) ≡ advanced o leg q ++ joints_from false o (next_leg_of o.half_width leg q) qs
 unfolding joints_from
@@ -52,52 +52,49 @@ module _ (pass : Pass) (p : List Float) (first : ℕ) (ds : List Float) where
   o = pass.stroke
 
   -- the joints that are to come
-  abbrev rest : Walk → Next → List EndpointData
-  rest w n = joints_from false o w.leg (next_points o.near p first ds n)
+  abbrev rest : Walk → Trail → List EndpointData
+  rest w t = joints_from false o w.leg (trail_points o.near p first ds t)
 
-  pub record Stripping (w0 : Walk) (n0 : Next) (l0 : Lists) (w : Walk) (n : Next) (l : Lists) : Type 0 where
-    pub midway : Midway pass.write w0.strip (rest w0 n0) l0 (rest w n) w.strip l
-    pub behind : next_behind o.near p first ds n0 ≡ next_behind o.near p first ds n
-    pub fits : FeedFits o.near p first ds n.trail.feed
-    pub counted : All WellNumbered (next_points o.near p first ds n)
+  pub record Stripping (w0 : Walk) (t0 : Trail) (l0 : Lists) (w : Walk) (t : Trail) (l : Lists) : Type 0 where
+    pub midway : Midway pass.write w0.strip (rest w0 t0) l0 (rest w t) w.strip l
+    pub behind : trail_behind o.near p first ds t0 ≡ trail_behind o.near p first ds t
+    pub fits : FeedFits o.near p first ds t.feed
+    pub counted : All WellNumbered (trail_points o.near p first ds t)
 
-  -- the first look is from the trail t
-  pub stripping_none : (w : Walk) (t : Trail) (n : Next) (l : Lists) → Follows o.near p first ds t n → All WellNumbered (trail_points o.near p first ds t) → Stripping w n l w n l
-  stripping_none w t n l e g = record { midway = midway_start; behind = refl; fits = e.fits; counted = rw e.points at g }
+  pub stripping_none : (w : Walk) (t : Trail) (l : Lists) → FeedFits o.near p first ds t.feed → All WellNumbered (trail_points o.near p first ds t) → Stripping w t l w t l
+  stripping_none w t l f g = record { midway = midway_start; behind = refl; fits = f; counted = g }
 
-  module _ {w0 : Walk} {n0 : Next} {l0 : Lists} {w : Walk} {n : Next} {l : Lists} (s : Stripping w0 n0 l0 w n l) where
-    module _ (found : n.found ≡ true) where
-      next : rest w n ≡ advanced o w.leg n.trail.last ++ joints_from false o (next_leg_of o.half_width w.leg n.trail.last) (trail_points o.near p first ds n.trail)
-      next = rw found (joints_on o w.leg n.trail.last (trail_points o.near p first ds n.trail))
+  module _ {w0 : Walk} {t0 : Trail} {l0 : Lists} {w : Walk} {t : Trail} {l : Lists} (s : Stripping w0 t0 l0 w t l) where
+    module _ (q : Endpoint) (u : Trail) (f : Follows o.near p first ds t (Some q) u) where
+      next : rest w t ≡ advanced o w.leg q ++ joints_from false o (next_leg_of o.half_width w.leg q) (trail_points o.near p first ds u)
+      next = rw f.points (joints_on o w.leg q (trail_points o.near p first ds u))
 
-      pub turn_counted : WellNumbered n.trail.last
-      turn_counted = counted_here o.near p first ds n found s.counted
+      pub turn_counted : WellNumbered q
+      turn_counted = counted_here o.near p first ds t q u f s.counted
 
-      pub turn_has : StripFits pass.write w0.strip (rest w0 n0) l0 → StripFits pass.write w.strip (advanced o w.leg n.trail.last) l
-      turn_has h = midway_has (advanced o w.leg n.trail.last) _ h (rw next at s.midway)
+      pub turn_has : StripFits pass.write w0.strip (rest w0 t0) l0 → StripFits pass.write w.strip (advanced o w.leg q) l
+      turn_has h = midway_has (advanced o w.leg q) _ h (rw next at s.midway)
 
-      pub turn : {w1 : Walk} {l1 : Lists} {m : Next} → Walks pass.write (advanced o w.leg n.trail.last) (next_leg_of o.half_width w.leg n.trail.last) w l l1 w1
-          → Follows o.near p first ds n.trail m → Stripping w0 n0 l0 w1 m l1
-      turn {w1} {l1} {m} e f = record {
-        midway = rw (e.leg, ← f.points) (midway_put (advanced o w.leg n.trail.last) _ (rw next at s.midway) e.puts);
-        behind = s.behind ∙ behind_on o.near p first ds n found m f;
+      pub turn : {w1 : Walk} {l1 : Lists} → Walks pass.write (advanced o w.leg q) (next_leg_of o.half_width w.leg q) w l l1 w1 → Stripping w0 t0 l0 w1 u l1
+      turn {w1} {l1} e = record {
+        midway = rw e.leg (midway_put (advanced o w.leg q) _ (rw next at s.midway) e.puts);
+        behind = s.behind ∙ f.behind;
         fits = f.fits;
-        counted = counted_on o.near p first ds n found m f s.counted;
+        counted = counted_on o.near p first ds t q u f s.counted;
       }
 
-    module _ (found : n.found ≡ false) where
-      last : rest w n ≡ (end_cap_of o w.leg ∷ []) ++ []
-      last = rw (points_none o.near p first ds n found) (joints_end o w.leg)
+    module _ (u : Trail) (f : Follows o.near p first ds t None u) where
+      last : rest w t ≡ (end_cap_of o w.leg ∷ []) ++ []
+      last = rw f.points (joints_end o w.leg)
 
-      pub end_has : StripFits pass.write w0.strip (rest w0 n0) l0 → StripFits pass.write w.strip (end_cap_of o w.leg ∷ []) l
+      pub end_has : StripFits pass.write w0.strip (rest w0 t0) l0 → StripFits pass.write w.strip (end_cap_of o w.leg ∷ []) l
       end_has h = midway_has (end_cap_of o w.leg ∷ []) [] h (rw last at s.midway)
 
-      -- the first look was from the trail t
-      pub end : (t : Trail) → Follows o.near p first ds t n0 → {s1 : Strip} {l1 : Lists} → StripPasses pass.write (end_cap_of o w.leg ∷ []) w.strip l l1 s1
-          → Strips pass p first ds t (joints_from false o w0.leg (trail_points o.near p first ds t)) w0.strip l0 l1 (record { strip = s1; feed = n.trail.feed })
-      end t f e = record {
-        strip = rw f.points (midway_end (midway_put (end_cap_of o w.leg ∷ []) [] (rw last at s.midway) e));
-        leaves = record { behind = behind_none o.near p first ds n found ∙ sym s.behind ∙ sym f.behind; fits = s.fits };
+      pub end : {s1 : Strip} {l1 : Lists} → StripPasses pass.write (end_cap_of o w.leg ∷ []) w.strip l l1 s1
+          → Strips pass p first ds t0 (joints_from false o w0.leg (trail_points o.near p first ds t0)) w0.strip l0 l1 (record { strip = s1; feed = u.feed })
+      end e = record {
+        strip = midway_end (midway_put (end_cap_of o w.leg ∷ []) [] (rw last at s.midway) e);
+        leaves = record { behind = sym (s.behind ∙ f.behind); fits = f.fits };
       }
 
 -- ---- all of a dash

@@ -5,6 +5,7 @@ use mathlib.Core.Path.{◌≡◌, refl}
 use mathlib.Core.Bool.{Bool, true, false}
 use mathlib.Core.List.{List, [], ◌∷◌, ◌++◌}
 use lib.Ieee.{Float}
+use Rattle.std.specs.Prelude.{Some, None}
 use Rattle.endpoint.specs.declared.VertexId.{VertexId}
 use Rattle.lists.specs.All.{All}
 use Rattle.pieces.specs.Piece.{Lists, lent, from}
@@ -29,10 +30,9 @@ use Rattle.weave.specs.declared.Walk.{Walk}
 use Rattle.woven.specs.Woven.{woven_of, WovenFits}
 use Rattle.woven.proofs.Runs.{cap_fits, open_fits, open_passes}
 use Rattle.feed.specs.Feed.{WellNumbered, FeedFits}
-use Rattle.feed.specs.Trail.{trail_points, next_points, Follows}
-use Rattle.feed.specs.declared.trail.Next.{Next}
+use Rattle.feed.specs.Trail.{trail_points, Follows}
 use Rattle.feed.specs.declared.trail.Trail.{Trail}
-use Rattle.dashed.proofs.Following.{counted_on, counted_here, points_none}
+use Rattle.dashed.proofs.Following.{counted_here, counted_on}
 
 bends_on : (o : Stroke) (leg : Leg) (q : Endpoint) (qs : List Endpoint) → bends_from false o leg (q ∷ qs) ≡ advanced o leg q ++ bends_from false o (next_leg_of o.half_width leg q) qs
 unfolding bends_from
@@ -52,48 +52,45 @@ module _ (pass : Pass) (r : Round) (p : List Float) (first : ℕ) (ds : List Flo
   o = pass.stroke
 
   -- the joints that are to come
-  abbrev rest : Walk → Next → List Bend
-  rest w n = bends_from false o w.leg (next_points o.near p first ds n)
+  abbrev rest : Walk → Trail → List Bend
+  rest w t = bends_from false o w.leg (trail_points o.near p first ds t)
 
-  pub record Weaving (w0 : Walk) (n0 : Next) (l0 : Lists) (w : Walk) (n : Next) (l : Lists) : Type 0 where
-    pub midway : Midway pass.write o r w0.weave (rest w0 n0) l0 (rest w n) w.weave l
-    pub fits : FeedFits o.near p first ds n.trail.feed
-    pub counted : All WellNumbered (next_points o.near p first ds n)
+  pub record Weaving (w0 : Walk) (t0 : Trail) (l0 : Lists) (w : Walk) (t : Trail) (l : Lists) : Type 0 where
+    pub midway : Midway pass.write o r w0.weave (rest w0 t0) l0 (rest w t) w.weave l
+    pub fits : FeedFits o.near p first ds t.feed
+    pub counted : All WellNumbered (trail_points o.near p first ds t)
 
-  -- the first look is from the trail t
-  pub weaving_none : (w : Walk) (t : Trail) (n : Next) (l : Lists) → Follows o.near p first ds t n → All WellNumbered (trail_points o.near p first ds t) → Weaving w n l w n l
-  weaving_none w t n l e g = record { midway = midway_start; fits = e.fits; counted = rw e.points at g }
+  pub weaving_none : (w : Walk) (t : Trail) (l : Lists) → FeedFits o.near p first ds t.feed → All WellNumbered (trail_points o.near p first ds t) → Weaving w t l w t l
+  weaving_none w t l f g = record { midway = midway_start; fits = f; counted = g }
 
-  module _ {w0 : Walk} {n0 : Next} {l0 : Lists} {w : Walk} {n : Next} {l : Lists} (s : Weaving w0 n0 l0 w n l) where
-    module _ (found : n.found ≡ true) where
-      next : rest w n ≡ advanced o w.leg n.trail.last ++ bends_from false o (next_leg_of o.half_width w.leg n.trail.last) (trail_points o.near p first ds n.trail)
-      next = rw found (bends_on o w.leg n.trail.last (trail_points o.near p first ds n.trail))
+  module _ {w0 : Walk} {t0 : Trail} {l0 : Lists} {w : Walk} {t : Trail} {l : Lists} (s : Weaving w0 t0 l0 w t l) where
+    module _ (q : Endpoint) (u : Trail) (f : Follows o.near p first ds t (Some q) u) where
+      next : rest w t ≡ advanced o w.leg q ++ bends_from false o (next_leg_of o.half_width w.leg q) (trail_points o.near p first ds u)
+      next = rw f.points (bends_on o w.leg q (trail_points o.near p first ds u))
 
-      pub turn_counted : WellNumbered n.trail.last
-      turn_counted = counted_here o.near p first ds n found s.counted
+      pub turn_counted : WellNumbered q
+      turn_counted = counted_here o.near p first ds t q u f s.counted
 
-      pub turn_has : WeaveFits pass.write o r w0.weave (rest w0 n0) l0 → WeaveFits pass.write o r w.weave (advanced o w.leg n.trail.last) l
-      turn_has h = midway_has (advanced o w.leg n.trail.last) _ h (rw next at s.midway)
+      pub turn_has : WeaveFits pass.write o r w0.weave (rest w0 t0) l0 → WeaveFits pass.write o r w.weave (advanced o w.leg q) l
+      turn_has h = midway_has (advanced o w.leg q) _ h (rw next at s.midway)
 
-      pub turn : {w1 : Walk} {l1 : Lists} {m : Next} → Walks pass r (advanced o w.leg n.trail.last) (next_leg_of o.half_width w.leg n.trail.last) w l l1 w1
-          → Follows o.near p first ds n.trail m → Weaving w0 n0 l0 w1 m l1
-      turn {m = m} e f = record {
-        midway = rw (e.leg, ← f.points) (midway_put (advanced o w.leg n.trail.last) _ (rw next at s.midway) e.puts);
+      pub turn : {w1 : Walk} {l1 : Lists} → Walks pass r (advanced o w.leg q) (next_leg_of o.half_width w.leg q) w l l1 w1 → Weaving w0 t0 l0 w1 u l1
+      turn e = record {
+        midway = rw e.leg (midway_put (advanced o w.leg q) _ (rw next at s.midway) e.puts);
         fits = f.fits;
-        counted = counted_on o.near p first ds n found m f s.counted;
+        counted = counted_on o.near p first ds t q u f s.counted;
       }
 
-    module _ (found : n.found ≡ false) where
-      last : rest w n ≡ (end_bend o w.leg ∷ []) ++ []
-      last = rw (points_none o.near p first ds n found) (bends_end o w.leg)
+    module _ (u : Trail) (f : Follows o.near p first ds t None u) where
+      last : rest w t ≡ (end_bend o w.leg ∷ []) ++ []
+      last = rw f.points (bends_end o w.leg)
 
-      pub end_has : WeaveFits pass.write o r w0.weave (rest w0 n0) l0 → WeaveFits pass.write o r w.weave (end_bend o w.leg ∷ []) l
+      pub end_has : WeaveFits pass.write o r w0.weave (rest w0 t0) l0 → WeaveFits pass.write o r w.weave (end_bend o w.leg ∷ []) l
       end_has h = midway_has (end_bend o w.leg ∷ []) [] h (rw last at s.midway)
 
-      -- the first look was from the trail t
-      pub end : (t : Trail) → Follows o.near p first ds t n0 → {q : Weave} {l1 : Lists} → WeavePasses pass.write o r (end_bend o w.leg ∷ []) w.weave l l1 q
-          → WeavePasses pass.write o r (bends_from false o w0.leg (trail_points o.near p first ds t)) w0.weave l0 l1 q
-      end t f e = rw f.points (midway_end (midway_put (end_bend o w.leg ∷ []) [] (rw last at s.midway) e))
+      pub end : {q : Weave} {l1 : Lists} → WeavePasses pass.write o r (end_bend o w.leg ∷ []) w.weave l l1 q
+          → WeavePasses pass.write o r (bends_from false o w0.leg (trail_points o.near p first ds t0)) w0.weave l0 l1 q
+      end e = midway_end (midway_put (end_bend o w.leg ∷ []) [] (rw last at s.midway) e)
 
 -- ---- all of a dash
 module _ (o : Stroke) (r : Round) (a b : Endpoint) (qs : List Endpoint) {leg : Leg} (is : leg ≡ first_leg_of o.half_width a b) (base : VertexId) where

@@ -1,5 +1,5 @@
 -- What the passes along a dash need and do, and where the feed stands behind it. Assumes nothing.
-use Rattle.std.specs.Prelude.{ℕ, ◌≡◌, Bool, List, ◌∷◌, Float}
+use Rattle.std.specs.Prelude.{ℕ, ◌≡◌, Bool, Option, MatchOption, ⊤, List, ◌∷◌, Float}
 use Rattle.endpoint.specs.declared.Endpoint.{Endpoint}
 use Rattle.endpoint.specs.declared.EndpointData.{EndpointData}
 use Rattle.lists.specs.All.{All}
@@ -12,7 +12,7 @@ use Rattle.along.specs.declared.Pass.{Pass}
 use Rattle.fans.specs.declared.Round.{Round}
 use Rattle.dashes.specs.Dashes.{dashes_of}
 use Rattle.feed.specs.Feed.{WellNumbered, comes, FeedFits}
-use Rattle.feed.specs.Trail.{trail_points, trail_behind, trail_dashes, TrailFits}
+use Rattle.feed.specs.Trail.{trail_points, trail_behind, trail_dashes, DashBegins}
 use Rattle.feed.specs.declared.Feed.{Feed}
 use Rattle.feed.specs.declared.trail.Trail.{Trail}
 use Rattle.dashed.specs.Dashed.{dash_piece}
@@ -35,14 +35,14 @@ module _ (limit : Float) (p : List Float) (first : ℕ) where
       pub numbered : All WellNumbered (dash_kept d)
 
     -- a feed behind the dash
-    pub record Leaves (t : Trail) (f : Feed) : Type 0 where
+    pub record Leaves (t : Trail) (f : Option Feed) : Type 0 where
       pub behind : comes limit p first ds f ≡ trail_behind limit p first ds t
       pub fits : FeedFits limit p first ds f
 
-  -- at the run's first dash
-  pub record Starts (i : ℕ) (closed : Bool) (ds : List Float) (offset : Float) (r : Trail) : Type 0 where
+  -- at the run's first dash, where it has one
+  pub record Starts (i : ℕ) (closed : Bool) (ds : List Float) (offset : Float) (r : Option Trail) : Type 0 where
     pub dashes : dashes_of closed ds offset (run_from limit p first i) ≡ trail_dashes limit p first ds r
-    pub fits : TrailFits limit p first ds r
+    pub fits : MatchOption r ⊤ (DashBegins limit p first ds)
 
 module _ (pass : Pass) where
   abbrev near : Float

@@ -38,11 +38,9 @@ fn weave_one(
     requires weave_fits { WeaveFits pass.write pass.stroke r w.weave (advanced pass.stroke w.leg q) (lent v.old src.old t.old) }
     ensures { Walks pass r (advanced pass.stroke w.leg q) (next_leg_of pass.stroke.half_width w.leg q) w (lent v.old src.old t.old) (lent v.new src.new t.new) result }
 {
-    let at = q.position;
-    let xy = [at.x, at.y];
-    let id = q.id;
+    let xy = [q.position.x, q.position.y];
     let one = Stretch {
-        first: id,
+        first: q.id,
         from: 0,
         sure: true,
     };
@@ -56,24 +54,18 @@ fn weave_on(
     t: &mut [Index],
     pass: Pass,
     r: Round,
-    w: Walk,
+    mut w: Walk,
     p: &[f32],
     first: EndpointId,
     ds: &[f32],
-    trail: Trail,
+    mut trail: Trail,
 ) -> Weave
     requires feed_fits { FeedFits pass.stroke.near p.now first.0 ds.now trail.feed × All WellNumbered (trail_points pass.stroke.near p.now first.0 ds.now trail) }
     requires weave_fits { WeaveFits pass.write pass.stroke r w.weave (bends_from false pass.stroke w.leg (trail_points pass.stroke.near p.now first.0 ds.now trail)) (lent v.old src.old t.old) }
     ensures { WeavePasses pass.write pass.stroke r (bends_from false pass.stroke w.leg (trail_points pass.stroke.near p.now first.0 ds.now trail)) w.weave (lent v.old src.old t.old) (lent v.new src.new t.new) result }
 {
-    let o = pass.stroke;
-    let mut w = w;
-    let mut n = next_point(o.near, p, first, ds, trail);
-    while n.found {
-        let on = n.trail;
-        let q = on.last;
+    while let Some(q) = next_point(pass.stroke.near, p, first, ds, &mut trail) {
         w = weave_one(v, src, t, pass, r, w, q);
-        n = next_point(o.near, p, first, ds, on);
     }
     finish(v, src, t, pass, r, w)
 }
@@ -96,14 +88,12 @@ fn weave_dash(
     ensures { WeftPasses pass.write (from arcs) (woven_of false pass.stroke r at.vertex (dash_kept pass.stroke.near p.now at.endpoint.0 ds.now d)) (lent v.old src.old t.old) (lent v.new src.new t.new) result }
 {
     let o = pass.stroke;
-    let trail = d.trail;
-    let leg = leg_of(o.half_width, 0.0, d.from, trail.last);
-    let begun = begin(o, r, leg, at.vertex, arcs);
+    let leg = leg_of(o.half_width, 0.0, d.from, d.trail.last);
     let start = Walk {
-        leg: leg,
-        weave: begun,
+        leg,
+        weave: begin(o, r, leg, at.vertex, arcs),
     };
-    let w = weave_on(v, src, t, pass, r, start, p, at.endpoint, ds, trail);
+    let w = weave_on(v, src, t, pass, r, start, p, at.endpoint, ds, d.trail);
     w.place
 }
 
@@ -128,9 +118,8 @@ pub fn weave_behind(
     let a = 5 * b;
     let arcs = vertex_after(at.vertex, n);
     let k = weave_dash(&mut v[a..], &mut src[b..], t, pass, r, p, at, ds, d, arcs);
-    let base = at.vertex;
     Place {
-        base,
+        base: at.vertex,
         vertices: n + k.vertices,
         triangles: k.triangles,
     }

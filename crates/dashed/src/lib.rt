@@ -36,10 +36,10 @@ pub struct Dash {
 }
 
 // The place behind a dash that is drawn, and the feed behind it.
-#[derive(Drop)]
+#[derive(Clone, Copy)]
 pub struct Drawn {
     pub place: Place,
-    pub feed: Feed,
+    pub feed: Option<Feed>,
 }
 
 // A dash of two kept points or more.
@@ -60,14 +60,16 @@ fn draw_line(
     ensures { Draws pass p.now at.endpoint.0 ds.now d.trail (from at.vertex) (round_piece false pass.stroke r at.vertex (dash_kept pass.stroke.near p.now at.endpoint.0 ds.now d)) (lent v.old src.old t.old) (lent v.new src.new t.new) result }
 {
     let s = strip_dash(v, src, t, pass, p, at, ds, d);
-    let f = s.feed;
-    let strip = s.strip;
-    let k = strip.place;
-    if r.joins | r.caps {
-        let place = weave_behind(v, src, t, pass, r, p, at, ds, d, k.vertices);
-        return Drawn { place, feed: f };
+    let k = s.strip.place;
+    let place = if r.joins || r.caps {
+        weave_behind(v, src, t, pass, r, p, at, ds, d, k.vertices)
+    } else {
+        k
+    };
+    Drawn {
+        place,
+        feed: s.feed,
     }
-    Drawn { place: k, feed: f }
 }
 
 // A dash from its first point, where the trail is. A dash left with one point is drawn as nothing.
@@ -80,32 +82,26 @@ fn draw_dash(
     p: &[f32],
     at: At,
     ds: &[f32],
-    trail: Trail,
+    mut trail: Trail,
 ) -> Drawn
     requires trail_fits { TrailFits pass.stroke.near p.now at.endpoint.0 ds.now trail }
     requires detail_bound { r.detail ≤ 6 }
     requires fits { Fits pass.write (from at.vertex) (dash_piece pass.stroke r at.vertex (trail_kept pass.stroke.near p.now at.endpoint.0 ds.now trail)) (lent v.old src.old t.old) }
     ensures { Draws pass p.now at.endpoint.0 ds.now trail (from at.vertex) (dash_piece pass.stroke r at.vertex (trail_kept pass.stroke.near p.now at.endpoint.0 ds.now trail)) (lent v.old src.old t.old) (lent v.new src.new t.new) result }
 {
-    let o = pass.stroke;
-    let n = next_point(o.near, p, at.endpoint, ds, trail);
-    let on = n.trail;
-    if n.found {
-        let last = trail.last;
-        let d = Dash {
-            from: last,
-            trail: on,
-        };
-        return draw_line(v, src, t, pass, r, p, at, ds, d);
+    let from = trail.last;
+    if next_point(pass.stroke.near, p, at.endpoint, ds, &mut trail).is_some() {
+        return draw_line(v, src, t, pass, r, p, at, ds, Dash { from, trail });
     }
-    let f = on.feed;
-    let base = at.vertex;
     let place = Place {
-        base,
+        base: at.vertex,
         vertices: 0,
         triangles: 0,
     };
-    Drawn { place, feed: f }
+    Drawn {
+        place,
+        feed: trail.feed,
+    }
 }
 
 // The same in the parts of the lists that begin where the last dash ended.
@@ -144,18 +140,18 @@ fn draw_next(
         ds,
         trail,
     );
-    let own = d.place;
-    let f = d.feed;
-    let base = k.base;
     let place = Place {
-        base,
-        vertices: k.vertices + own.vertices,
-        triangles: k.triangles + own.triangles,
+        vertices: k.vertices + d.place.vertices,
+        triangles: k.triangles + d.place.triangles,
+        ..k
     };
-    Drawn { place, feed: f }
+    Drawn {
+        place,
+        feed: d.feed,
+    }
 }
 
-// At the first point of a run's first dash, or of no dash; the run's second kept point stands at i.
+// At the first point of a run's first dash, where it has one; the run's second kept point stands at i.
 fn start_dashes(
     near: f32,
     p: &[f32],
@@ -164,24 +160,21 @@ fn start_dashes(
     closed: bool,
     ds: &[f32],
     offset: f32,
-) -> Trail
+) -> Option<Trail>
     requires within { Within p.now first.0 i }
     requires ds_nonzero { (0 < length ds.now) × (run_cuts closed ds.now offset (run_from near p.now first.0 i) ≤ cut_limit) }
     ensures { Starts near p.now first.0 i closed ds.now offset result }
 {
     let b = first_cut(ds, worn(ds, offset));
-    let f = first_feed(p, first, i, closed, b);
-    let p0 = endpoint_at(p, first, 0);
-    let on = is_dash(b.index);
-    let start = Trail {
-        last: p0,
-        on: on,
-        feed: f,
-    };
-    if on {
-        return start;
+    let feed = Some(first_feed(p, first, i, closed, b));
+    if is_dash(b.index) {
+        return Some(Trail {
+            last: endpoint_at(p, first, 0),
+            on: true,
+            feed,
+        });
     }
-    next_dash(near, p, first, ds, start)
+    next_dash(near, p, first, ds, feed)
 }
 
 // The dashes of a run of two kept points or more, the second at i.
@@ -203,26 +196,18 @@ pub fn draw_dashes(
     requires fits { Fits pass.write (from at.vertex) (run_piece pass.stroke r at.vertex closed ds.now offset (run_from pass.stroke.near p.now at.endpoint.0 i)) (lent v.old src.old t.old) }
     ensures { Passes pass.write (from at.vertex) (run_piece pass.stroke r at.vertex closed ds.now offset (run_from pass.stroke.near p.now at.endpoint.0 i)) (lent v.old src.old t.old) (lent v.new src.new t.new) result }
 {
-    let o = pass.stroke;
+    let near = pass.stroke.near;
     let first = at.endpoint;
-    let base = at.vertex;
     let mut k = Place {
-        base,
+        base: at.vertex,
         vertices: 0,
         triangles: 0,
     };
-    let mut trail = start_dashes(o.near, p, first, i, closed, ds, offset);
-    while trail.on {
+    let mut next = start_dashes(near, p, first, i, closed, ds, offset);
+    while let Some(trail) = next {
         let d = draw_next(v, src, t, pass, r, p, first, ds, trail, k);
         k = d.place;
-        let f = d.feed;
-        let last = trail.last;
-        let gap = Trail {
-            last: last,
-            on: false,
-            feed: f,
-        };
-        trail = next_dash(o.near, p, first, ds, gap);
+        next = next_dash(near, p, first, ds, d.feed);
     }
     k
 }

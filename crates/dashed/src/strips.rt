@@ -22,10 +22,10 @@ use pieces::Index;
 use strip::Strip;
 
 // A dash's strip, and the feed behind the dash.
-#[derive(Drop)]
+#[derive(Clone, Copy)]
 pub struct Stripped {
     pub strip: Strip,
-    pub feed: Feed,
+    pub feed: Option<Feed>,
 }
 
 // The next point, by the pass that runs take along their points: were a step of that pass called from here too, the compiler would copy it into
@@ -42,11 +42,9 @@ fn strip_one(
     requires strip_fits { StripFits pass.write w.strip (advanced pass.stroke w.leg q) (lent v.old src.old t.old) }
     ensures { Walks pass.write (advanced pass.stroke w.leg q) (next_leg_of pass.stroke.half_width w.leg q) w (lent v.old src.old t.old) (lent v.new src.new t.new) result }
 {
-    let at = q.position;
-    let xy = [at.x, at.y];
-    let id = q.id;
+    let xy = [q.position.x, q.position.y];
     let one = Stretch {
-        first: id,
+        first: q.id,
         from: 0,
         sure: true,
     };
@@ -59,29 +57,23 @@ fn strip_on(
     src: &mut [u32],
     t: &mut [Index],
     pass: Pass,
-    w: Walk,
+    mut w: Walk,
     p: &[f32],
     first: EndpointId,
     ds: &[f32],
-    trail: Trail,
+    mut trail: Trail,
 ) -> Stripped
     requires feed_fits { FeedFits pass.stroke.near p.now first.0 ds.now trail.feed × All WellNumbered (trail_points pass.stroke.near p.now first.0 ds.now trail) }
     requires strip_fits { StripFits pass.write w.strip (joints_from false pass.stroke w.leg (trail_points pass.stroke.near p.now first.0 ds.now trail)) (lent v.old src.old t.old) }
     ensures { Strips pass p.now first.0 ds.now trail (joints_from false pass.stroke w.leg (trail_points pass.stroke.near p.now first.0 ds.now trail)) w.strip (lent v.old src.old t.old) (lent v.new src.new t.new) result }
 {
-    let o = pass.stroke;
-    let mut w = w;
-    let mut n = next_point(o.near, p, first, ds, trail);
-    while n.found {
-        let on = n.trail;
-        let q = on.last;
+    while let Some(q) = next_point(pass.stroke.near, p, first, ds, &mut trail) {
         w = strip_one(v, src, t, pass, w, q);
-        n = next_point(o.near, p, first, ds, on);
     }
-    let end = n.trail;
-    let f = end.feed;
-    let s = finish(v, src, t, pass, w);
-    Stripped { strip: s, feed: f }
+    Stripped {
+        strip: finish(v, src, t, pass, w),
+        feed: trail.feed,
+    }
 }
 
 // All of a dash; its advancement begins at 0.
@@ -99,9 +91,7 @@ pub fn strip_dash(
     requires strip_fits { StripFits pass.write (start_of at.vertex) (joints_of false pass.stroke (dash_kept pass.stroke.near p.now at.endpoint.0 ds.now d)) (lent v.old src.old t.old) }
     ensures { Strips pass p.now at.endpoint.0 ds.now d.trail (joints_of false pass.stroke (dash_kept pass.stroke.near p.now at.endpoint.0 ds.now d)) (start_of at.vertex) (lent v.old src.old t.old) (lent v.new src.new t.new) result }
 {
-    let o = pass.stroke;
-    let trail = d.trail;
-    let leg = leg_of(o.half_width, 0.0, d.from, trail.last);
+    let leg = leg_of(pass.stroke.half_width, 0.0, d.from, d.trail.last);
     let w = begin(v, src, t, pass, leg, at.vertex);
-    strip_on(v, src, t, pass, w, p, at.endpoint, ds, trail)
+    strip_on(v, src, t, pass, w, p, at.endpoint, ds, d.trail)
 }

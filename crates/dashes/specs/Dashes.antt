@@ -2,7 +2,9 @@
 use Rattle.std.specs.Prelude.{Bool, true, false, cond, List, [], ◌∷◌, ◌++◌, Float}
 use Rattle.endpoint.specs.declared.Endpoint.{Endpoint}
 use Rattle.dashes.specs.Pattern.{is_dash, worn_of, first_cut}
-use Rattle.dashes.specs.Marks.{Mark, Cut, Corner, marks_of}
+use Rattle.dashes.specs.Marks.{marks_of}
+use Rattle.dashes.specs.declared.spot.Mark.{Mark}
+use Rattle.dashes.specs.declared.spot.Mark.TheVariants.{Cut, Corner}
 
 -- Inside a dash, whose points so far are ps, a corner is its next point and a cut ends it; inside a gap a cut begins the next.
 unfoldable pub dashes_from : Bool → List Endpoint → List Mark → List (List Endpoint)

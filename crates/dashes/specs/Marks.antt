@@ -6,10 +6,9 @@ use Rattle.plane.specs.Vector.{plus_of, minus_of, times_of, length_of}
 use Rattle.endpoint.specs.declared.Endpoint.{Endpoint}
 use Rattle.dashes.specs.Pattern.{next_cut}
 use Rattle.dashes.specs.declared.pattern.Beat.{Beat}
+use Rattle.dashes.specs.declared.spot.Mark.{Mark}
+use Rattle.dashes.specs.declared.spot.Mark.TheVariants.{Cut, Corner}
 use Rattle.dashes.specs.declared.spot.Spot.{Spot}
--- what comes next on an edge: a cut, or its end
-pub use Rattle.dashes.specs.declared.spot.Mark.{Mark}
-pub use Rattle.dashes.specs.declared.spot.Mark.TheVariants.{Cut, Corner}
 
 -- "A cut b falls on the edge whose advancements have a0 at most b and b below a1"
 unfoldable pub falls_on : Spot → Bool

@@ -6,6 +6,7 @@ use mathlib.Core.Bool.{Bool, true, false, cond}
 use mathlib.Core.List.{List, [], ◌∷◌}
 use native.Mathlib.Omega.{arith}
 use lib.Ieee.{Float}
+use Rattle.std.specs.Prelude.{Option, Some, None, MatchOption, ⊤}
 use lib.ListN.{length, drop, drop_of_length-le}
 use Rattle.endpoint.specs.Endpoint.{id_limit}
 use Rattle.endpoint.specs.declared.Endpoint.{Endpoint}
@@ -18,15 +19,16 @@ use Rattle.kept.proofs.Indexed.{points_at, points_length}
 use Rattle.kept.proofs.Further.{keep_far}
 use Rattle.kept.proofs.Keeping.{behind_all}
 use Rattle.dashes.specs.Pattern.{wear_limit, index_limit, next_cut}
-use Rattle.dashes.specs.Marks.{Mark, Cut, Corner, falls_on, cut_of, passed_of, spot_of, turned_of, cuts_on, behind, cut_limit, cuts_enough, cut_marks, marks_from, marks_of}
+use Rattle.dashes.specs.Marks.{falls_on, cut_of, passed_of, spot_of, turned_of, cuts_on, behind, cut_limit, cuts_enough, cut_marks, marks_from, marks_of}
+use Rattle.dashes.specs.declared.spot.Mark.{Mark}
+use Rattle.dashes.specs.declared.spot.Mark.TheVariants.{Cut, Corner}
 use Rattle.dashes.specs.declared.pattern.Beat.{Beat}
 use Rattle.dashes.specs.declared.spot.Spot.{Spot}
 use Rattle.cuts.specs.Cuts.{cut_count}
 use Rattle.cuts.proofs.Counting.{behind_to}
 use Rattle.cuts.proofs.Enough.{marks_cut}
-use Rattle.feed.specs.Feed.{WellNumbered, mark_at, MarkNumbered, onward, first_feed, NextFar, ahead, comes, Turns, FeedFits, Feeds}
+use Rattle.feed.specs.Feed.{WellNumbered, MarkNumbered, onward, first_feed, NextFar, ahead, comes, Turns, FeedFits, Feeds}
 use Rattle.feed.specs.declared.Feed.{Feed}
-use Rattle.feed.specs.declared.Fed.{Fed}
 
 -- ---- on an edge
 no_cuts : (n : ℕ) (ds : List Float) (s : Spot) → falls_on s ≡ false → (cuts_on (suc n) ds s ≡ []) × (behind (suc n) ds s ≡ s)
@@ -45,7 +47,7 @@ module _ (limit : Float) (p : List Float) (first : ℕ) (f : Feed) where
 
   module _ (i : ℕ) (n : NextFar limit p first f.spot.to f.next i) where
     pub turn_far : (c : Endpoint) (s : Spot) → i < length p / 2 → c ≡ endpoint_at p first i → s ≡ turned_of f.spot c
-        → Turns limit p first f (record { spot = s; next = i + 1; closes = f.closes; more = true })
+        → Turns limit p first f (Some (record { spot = s; next = i + 1; closes = f.closes }))
     unfolding onward comes spot_of
     turn_far c s h ec es =
         let g : 2 * i + 2 ≤ length p = omega arith in
@@ -65,25 +67,25 @@ module _ (limit : Float) (p : List Float) (first : ℕ) (f : Feed) where
         n.kept ∙ rw d
 
     pub turn_home : (c : Endpoint) (s : Spot) → length p / 2 ≤ i → f.closes ≡ true → c ≡ endpoint_at p first 0 → s ≡ turned_of f.spot c
-        → Turns limit p first f (record { spot = s; next = i; closes = false; more = true })
+        → Turns limit p first f (Some (record { spot = s; next = i; closes = false }))
     unfolding onward comes spot_of kept_behind
     turn_home c s h t ec es =
         let l : length (endpoints_of first p) ≤ i = omega (arith, points_length p first) in
         let d : drop i (endpoints_of first p) ≡ [] = drop_of_length-le (endpoints_of first p) l in
         rw (es, ec) (record { same = λ ds. rw (last h, t, d); within = n.within; beat = refl })
 
-    pub turn_end : length p / 2 ≤ i → f.closes ≡ false → Turns limit p first f (record { spot = f.spot; next = i; closes = false; more = false })
+    pub turn_end : length p / 2 ≤ i → f.closes ≡ false → Turns limit p first f None
     unfolding onward comes
-    turn_end h t = record { same = λ ds. rw (last h, t); within = n.within; beat = refl }
+    turn_end h t = record { same = λ ds. rw (last h, t); within = tt; beat = tt }
 
   -- ---- one mark
-  module _ (ds : List Float) (w : FeedFits limit p first ds f) (more : f.more ≡ true) where
+  module _ (ds : List Float) (w : FeedFits limit p first ds (Some f)) where
     abbrev marks : List Mark
     marks = marks_from ds f.spot (ahead limit p first f)
 
-    here : comes limit p first ds f ≡ marks
+    here : comes limit p first ds (Some f) ≡ marks
     unfolding comes
-    here = rw more
+    here = refl
 
     few : cut_count marks ≤ cut_limit
     few = rw here at w.cuts
@@ -92,38 +94,46 @@ module _ (limit : Float) (p : List Float) (first : ℕ) (f : Feed) where
     pub cut_index : f.spot.beat.index < index_limit
     cut_index = omega (arith, w.index)
 
-    -- behind a mark
-    fits_behind : (cut : Bool) (q : Endpoint) (r : Feed) → comes limit p first ds f ≡ mark_at cut q ∷ comes limit p first ds r → r.next ≤ length p / 2
-        → r.spot.beat.index ≡ f.spot.beat.index + cond cut 1 0 → FeedFits limit p first ds r
-    unfolding mark_at cut_count
-    fits_behind true q r e n i =
-        let a : suc (cut_count (comes limit p first ds r)) ≤ cut_limit = rw e at w.cuts in
-        let b : f.spot.beat.index + suc (cut_count (comes limit p first ds r)) ≤ wear_limit + cut_limit = rw e at w.index in
-        let c : All MarkNumbered (Cut q ∷ comes limit p first ds r) = rw e at w.numbered in
-        record { some = w.some; point = w.point; few = w.few; within = n; cuts = omega (arith, a); index = omega (arith, b, i); numbered = c.1 }
-    fits_behind false q r e n i =
-        let a : cut_count (comes limit p first ds r) ≤ cut_limit = rw e at w.cuts in
-        let b : f.spot.beat.index + cut_count (comes limit p first ds r) ≤ wear_limit + cut_limit = rw e at w.index in
-        let c : All MarkNumbered (Corner q ∷ comes limit p first ds r) = rw e at w.numbered in
-        record { some = w.some; point = w.point; few = w.few; within = n; cuts = a; index = omega (arith, b, i); numbered = c.1 }
-
-    fed : (r : Fed) → comes limit p first ds f ≡ mark_at r.cut r.point ∷ comes limit p first ds r.feed → r.feed.next ≤ length p / 2
-        → r.feed.spot.beat.index ≡ f.spot.beat.index + cond r.cut 1 0 → Feeds limit p first ds f r
-    fed r e n i = record { marks = e; fits = fits_behind r.cut r.point r.feed e n i }
-
     pub fed_cut : (q : Endpoint) (s : Spot) → falls_on f.spot ≡ true → q ≡ cut_of f.spot → s ≡ passed_of ds f.spot
-        → Feeds limit p first ds f (record { point = q; cut = true; feed = record { spot = s; next = f.next; closes = f.closes; more = true } })
-    unfolding comes passed_of next_cut mark_at
-    fed_cut q s h eq es = rw (eq, es) (fed _ (here ∙ marks_cut ds f.spot (ahead limit p first f) h few) w.within refl)
-
-    pub fed_corner : (r : Feed) → falls_on f.spot ≡ false → Turns limit p first f r → Feeds limit p first ds f (record { point = f.spot.to; cut = false; feed = r })
-    unfolding mark_at
-    fed_corner r h t =
-        fed _ (here ∙ marks_corner ds f.spot (ahead limit p first f) h ∙ ap (λ (ms : List Mark). Corner f.spot.to ∷ ms) (t.same ds)) t.within
-        (ap (λ (b : Beat). b.index) t.beat ∙ zero_more f.spot.beat.index)
+        → Feeds limit p first ds f (record { mark = Cut q; feed = Some (record { spot = s; next = f.next; closes = f.closes }) })
+    unfolding comes passed_of next_cut cut_count
+    fed_cut q s h eq es = rw (eq, es) (record { marks = e; fits = record { some = w.some; point = w.point; few = w.few; within = w.within; cuts = omega (arith, cuts); index = omega (arith, index); numbered = numbered.1 } })
       where
-        zero_more : (n : ℕ) → n ≡ n + 0
-        zero_more n = omega arith
+        on : Option Feed
+        on = Some (record { spot = passed_of ds f.spot; next = f.next; closes = f.closes })
+
+        e : comes limit p first ds (Some f) ≡ Cut (cut_of f.spot) ∷ comes limit p first ds on
+        e = marks_cut ds f.spot (ahead limit p first f) h few
+
+        cuts : suc (cut_count (comes limit p first ds on)) ≤ cut_limit
+        cuts = rw e at w.cuts
+
+        index : f.spot.beat.index + suc (cut_count (comes limit p first ds on)) ≤ wear_limit + cut_limit
+        index = rw e at w.index
+
+        numbered : All MarkNumbered (Cut (cut_of f.spot) ∷ comes limit p first ds on)
+        numbered = rw e at w.numbered
+
+    pub fed_corner : (r : Option Feed) → falls_on f.spot ≡ false → Turns limit p first f r → Feeds limit p first ds f (record { mark = Corner f.spot.to; feed = r })
+    unfolding cut_count
+    fed_corner r h t = record { marks = e; fits = record { some = w.some; point = w.point; few = w.few; within = t.within; cuts = cuts; index = go r t.beat index; numbered = numbered.1 } }
+      where
+        e : comes limit p first ds (Some f) ≡ Corner f.spot.to ∷ comes limit p first ds r
+        e = here ∙ marks_corner ds f.spot (ahead limit p first f) h ∙ ap (λ (ms : List Mark). Corner f.spot.to ∷ ms) (t.same ds)
+
+        cuts : cut_count (comes limit p first ds r) ≤ cut_limit
+        cuts = rw e at w.cuts
+
+        index : f.spot.beat.index + cut_count (comes limit p first ds r) ≤ wear_limit + cut_limit
+        index = rw e at w.index
+
+        numbered : All MarkNumbered (Corner f.spot.to ∷ comes limit p first ds r)
+        numbered = rw e at w.numbered
+
+        go : (r : Option Feed) → MatchOption r ⊤ (λ (g : Feed). g.spot.beat ≡ f.spot.beat) → f.spot.beat.index + cut_count (comes limit p first ds r) ≤ wear_limit + cut_limit
+            → MatchOption r ⊤ (λ (g : Feed). g.spot.beat.index + cut_count (comes limit p first ds r) ≤ wear_limit + cut_limit)
+        go None b i = tt
+        go (Some g) b i = omega (arith, ap (λ (k : Beat). k.index) b, i)
 
 -- ---- a run's start
 points_counted : (p : List Float) (first : ℕ) → first + length p < id_limit → All WellNumbered (endpoints_of first p)
@@ -158,7 +168,7 @@ module _ (limit : Float) (p : List Float) (first i : ℕ) (closed : Bool) (ds : 
   run = marks_of closed ds b (run_from limit p first i)
 
   -- all marks of the run are to come
-  pub start_comes : comes limit p first ds (first_feed p first i closed b) ≡ run
+  pub start_comes : comes limit p first ds (Some (first_feed p first i closed b)) ≡ run
   unfolding comes marks_of spot_of
   start_comes = refl
 
@@ -172,7 +182,7 @@ module _ (limit : Float) (p : List Float) (first i : ℕ) (closed : Bool) (ds : 
       home true h = (h, tt)
       home false h = tt
 
-  pub start_fits : 0 < length ds → 2 * i + 2 ≤ length p → first + length p < id_limit → b.index ≤ wear_limit → cut_count run ≤ cut_limit → FeedFits limit p first ds (first_feed p first i closed b)
+  pub start_fits : 0 < length ds → 2 * i + 2 ≤ length p → first + length p < id_limit → b.index ≤ wear_limit → cut_count run ≤ cut_limit → FeedFits limit p first ds (Some (first_feed p first i closed b))
   unfolding spot_of
   start_fits some at few index cuts = record {
     some = some;

@@ -6,108 +6,80 @@
 
 pub mod trail;
 
-ghost use Rattle.std.specs.Prelude.{true, ◌≡◌, ◌+◌, ◌*◌, ◌≤◌, ◌<◌, length};
+ghost use Rattle.std.specs.Prelude.{◌≡◌, ◌+◌, ◌*◌, ◌/◌, ◌≤◌, ◌<◌, length, MatchOption};
 ghost use Rattle.endpoint.specs.Endpoint.{id_limit};
 ghost use Rattle.feed.specs.Feed.{NextFar, Turns, FeedFits, Feeds, first_feed};
 
 use dashes::pattern::Beat;
-use dashes::spot::{Spot, cut_of, falls, passed, spot_of, turned};
+use dashes::spot::{Mark, Spot, cut_of, falls, passed, spot_of, turned};
 use endpoint::{Endpoint, EndpointId};
 use kept::endpoint_at;
 use kept::near::is_near;
 
-// The edge that comes next, with the next cut; the index of the next point to look at; whether the way back to p0 is still to come; whether any mark is.
+// The edge that comes next, with the next cut; the index of the next point to look at; whether the way back to p0 is still to come.
 #[derive(Clone, Copy)]
 pub struct Feed {
     pub spot: Spot,
     pub next: usize,
     pub closes: bool,
-    pub more: bool,
 }
 
-// A mark, which is a cut or a corner, and the feed behind it.
-#[derive(Drop)]
+// The next mark, and the feed behind it where any mark is still to come.
+#[derive(Clone, Copy)]
 pub struct Fed {
-    pub point: Endpoint,
-    pub cut: bool,
-    pub feed: Feed,
+    pub mark: Mark,
+    pub feed: Option<Feed>,
 }
 
-// The first point from the one at i on that is not near a, or the number of points.
-fn next_far(near: f32, p: &[f32], first: EndpointId, a: Endpoint, i: usize) -> usize
+// The first point from the one at i on that is not near a.
+fn next_far(near: f32, p: &[f32], first: EndpointId, a: Endpoint, i: usize) -> Option<usize>
     requires { (2 * i ≤ length p.now) × (first.0 + length p.now < id_limit) }
-    ensures { NextFar near p.now first.0 a i result }
+    ensures { MatchOption result (NextFar near p.now first.0 a i (length p.now / 2)) (λ j. NextFar near p.now first.0 a i j × (j < length p.now / 2)) }
 {
-    let end = p.len() / 2;
-    let mut j = i;
-    while j < end {
-        let c = endpoint_at(p, first, j);
-        if !is_near(near, a.position, c.position) {
-            return j;
+    for j in i..p.len() / 2 {
+        if !is_near(near, a.position, endpoint_at(p, first, j).position) {
+            return Some(j);
         }
-        j += 1;
     }
-    j
+    None
 }
 
 // Past a corner, onto the next edge.
-fn turn(near: f32, p: &[f32], first: EndpointId, f: Feed) -> Feed
+fn turn(near: f32, p: &[f32], first: EndpointId, f: Feed) -> Option<Feed>
     requires { (2 ≤ length p.now) × (2 * f.next ≤ length p.now) × (first.0 + length p.now < id_limit) }
     ensures { Turns near p.now first.0 f result }
 {
-    let s = f.spot;
-    let to = s.to;
-    let i = next_far(near, p, first, to, f.next);
-    if i < p.len() / 2 {
-        let c = endpoint_at(p, first, i);
-        return Feed {
-            spot: turned(s, c),
+    match next_far(near, p, first, f.spot.to, f.next) {
+        Some(i) => Some(Feed {
+            spot: turned(f.spot, endpoint_at(p, first, i)),
             next: i + 1,
-            closes: f.closes,
-            more: true,
-        };
-    }
-    if f.closes {
-        let p0 = endpoint_at(p, first, 0);
-        return Feed {
-            spot: turned(s, p0),
-            next: i,
+            ..f
+        }),
+        None if f.closes => Some(Feed {
+            spot: turned(f.spot, endpoint_at(p, first, 0)),
+            next: p.len() / 2,
             closes: false,
-            more: true,
-        };
-    }
-    Feed {
-        spot: s,
-        next: i,
-        closes: false,
-        more: false,
+        }),
+        None => None,
     }
 }
 
 pub fn next_fed(near: f32, p: &[f32], first: EndpointId, ds: &[f32], f: Feed) -> Fed
-    requires { FeedFits near p.now first.0 ds.now f × (f.more ≡ true) }
+    requires { FeedFits near p.now first.0 ds.now (Some f) }
     ensures { Feeds near p.now first.0 ds.now f result }
 {
-    let s = f.spot;
-    if falls(s) {
-        let on = passed(ds, s);
+    if falls(f.spot) {
         return Fed {
-            point: cut_of(s),
-            cut: true,
-            feed: Feed {
-                spot: on,
-                next: f.next,
-                closes: f.closes,
-                more: true,
-            },
+            mark: Mark::Cut(cut_of(f.spot)),
+            feed: Some(Feed {
+                spot: passed(ds, f.spot),
+                ..f
+            }),
         };
     }
-    let to = s.to;
-    let on = turn(near, p, first, f);
     Fed {
-        point: to,
-        cut: false,
-        feed: on,
+        mark: Mark::Corner(f.spot.to),
+        feed: turn(near, p, first, f),
     }
 }
 
@@ -118,11 +90,9 @@ pub fn first_feed(p: &[f32], first: EndpointId, i: usize, closed: bool, b: Beat)
 {
     let p0 = endpoint_at(p, first, 0);
     let p1 = endpoint_at(p, first, i);
-    let s = spot_of(p0, 0.0, p1, b);
     Feed {
-        spot: s,
+        spot: spot_of(p0, 0.0, p1, b),
         next: i + 1,
         closes: closed,
-        more: true,
     }
 }

@@ -1,8 +1,9 @@
 // The kept points of a dash, one by one, and where the next dash begins.
 ghost use Rattle.feed.specs.Feed.{FeedFits};
-ghost use Rattle.feed.specs.Trail.{Follows, TrailFits, Begins};
+ghost use Rattle.feed.specs.Trail.{Follows, Begins};
 
 use crate::{Feed, next_fed};
+use dashes::spot::Mark;
 use endpoint::{Endpoint, EndpointId};
 use kept::near::is_near;
 
@@ -11,72 +12,62 @@ use kept::near::is_near;
 pub struct Trail {
     pub last: Endpoint,
     pub on: bool,
-    pub feed: Feed,
+    pub feed: Option<Feed>,
 }
 
-// Whether a dash has a further kept point: it is the last of the trail. Otherwise the trail's feed stands behind the dash.
-#[derive(Drop)]
-pub struct Next {
-    pub found: bool,
-    pub trail: Trail,
-}
-
+// The next kept point of a dash, to which the trail goes on; where there is none, the trail's feed then stands behind the dash.
 // Cut runs pass through rule 1 again: a point that is near the last kept one is dropped. A cut is the last point of a dash.
-pub fn next_point(near: f32, p: &[f32], first: EndpointId, ds: &[f32], t: Trail) -> Next
-    requires { FeedFits near p.now first.0 ds.now t.feed }
-    ensures { Follows near p.now first.0 ds.now t result }
+pub fn next_point(
+    near: f32,
+    p: &[f32],
+    first: EndpointId,
+    ds: &[f32],
+    t: &mut Trail,
+) -> Option<Endpoint>
+    requires { FeedFits near p.now first.0 ds.now t.old.feed }
+    ensures { Follows near p.now first.0 ds.now t.old result t.new }
 {
-    let last = t.last;
-    let mut on = t.on;
-    let mut f = t.feed;
-    while on & f.more {
+    while t.on
+        && let Some(f) = t.feed
+    {
         let m = next_fed(near, p, first, ds, f);
-        let q = m.point;
-        f = m.feed;
-        on = !m.cut;
-        if !is_near(near, last.position, q.position) {
-            return Next {
-                found: true,
-                trail: Trail {
-                    last: q,
-                    on: on,
-                    feed: f,
-                },
-            };
+        t.feed = m.feed;
+        let q = match m.mark {
+            Mark::Cut(q) => {
+                t.on = false;
+                q
+            }
+            Mark::Corner(q) => q,
+        };
+        if !is_near(near, t.last.position, q.position) {
+            t.last = q;
+            return Some(q);
         }
     }
-    Next {
-        found: false,
-        trail: Trail {
-            last: last,
-            on: on,
-            feed: f,
-        },
-    }
+    None
 }
 
-// Through a gap to the next dash, which begins at a cut; a trail that does not go on where there is none.
-pub fn next_dash(near: f32, p: &[f32], first: EndpointId, ds: &[f32], t: Trail) -> Trail
-    requires { TrailFits near p.now first.0 ds.now t }
-    ensures { Begins near p.now first.0 ds.now t.feed result }
+// Through a gap to the next dash, which begins at a cut.
+pub fn next_dash(
+    near: f32,
+    p: &[f32],
+    first: EndpointId,
+    ds: &[f32],
+    mut feed: Option<Feed>,
+) -> Option<Trail>
+    requires { FeedFits near p.now first.0 ds.now feed }
+    ensures { Begins near p.now first.0 ds.now feed result }
 {
-    let mut f = t.feed;
-    let last = t.last;
-    while f.more {
+    while let Some(f) = feed {
         let m = next_fed(near, p, first, ds, f);
-        f = m.feed;
-        if m.cut {
-            let q = m.point;
-            return Trail {
+        feed = m.feed;
+        if let Mark::Cut(q) = m.mark {
+            return Some(Trail {
                 last: q,
                 on: true,
-                feed: f,
-            };
+                feed,
+            });
         }
     }
-    Trail {
-        last: last,
-        on: false,
-        feed: f,
-    }
+    None
 }

@@ -15,7 +15,9 @@ use Rattle.kept.proofs.Lengths.{kept_few}
 use Rattle.lists.specs.All.{All}
 use Rattle.lists.proofs.All.{all_append}
 use Rattle.dashes.specs.Pattern.{is_dash, worn_of, first_cut}
-use Rattle.dashes.specs.Marks.{Mark, Cut, Corner, marks_of, marks_from, cut_marks, cuts_on, behind, turned_of, spot_of, cuts_enough}
+use Rattle.dashes.specs.Marks.{marks_of, marks_from, cut_marks, cuts_on, behind, turned_of, spot_of, cuts_enough}
+use Rattle.dashes.specs.declared.spot.Mark.{Mark}
+use Rattle.dashes.specs.declared.spot.Mark.TheVariants.{Cut, Corner}
 use Rattle.dashes.specs.Dashes.{dashes_from, dashes_of}
 use Rattle.dashes.specs.declared.pattern.Beat.{Beat}
 use Rattle.dashes.specs.declared.spot.Spot.{Spot}

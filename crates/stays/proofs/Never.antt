@@ -12,7 +12,9 @@ use Rattle.endpoint.specs.declared.Endpoint.{Endpoint}
 use Rattle.lists.specs.All.{All}
 use Rattle.lists.proofs.All.{all_append}
 use Rattle.dashes.specs.Pattern.{length_limit, offset_in, lengths_in, pattern_in, is_dash, worn_of, first_cut}
-use Rattle.dashes.specs.Marks.{Mark, Cut, Corner, marks_of}
+use Rattle.dashes.specs.Marks.{marks_of}
+use Rattle.dashes.specs.declared.spot.Mark.{Mark}
+use Rattle.dashes.specs.declared.spot.Mark.TheVariants.{Cut, Corner}
 use Rattle.dashes.specs.Dashes.{dashes_from, dashes_of}
 use Rattle.stays.specs.Stays.{Inside, Stays, Wears}
 use Rattle.stays.proofs.Wearing.{told, worn_ends}

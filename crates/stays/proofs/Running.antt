@@ -26,7 +26,9 @@ use Rattle.rounding.proofs.Differences.{gap, distance}
 use Rattle.rounding.proofs.Squares.{squared, length_squared, square_length_value}
 use Rattle.rounding.proofs.Roots.{root_value}
 use Rattle.dashes.specs.Pattern.{lengths_in, offset_in, length_at, worn_of, first_cut, next_cut}
-use Rattle.dashes.specs.Marks.{Mark, Cut, Corner, falls_on, cut_of, passed_of, spot_of, turned_of, cuts_on, behind, cut_marks, marks_from, marks_of}
+use Rattle.dashes.specs.Marks.{falls_on, cut_of, passed_of, spot_of, turned_of, cuts_on, behind, cut_marks, marks_from, marks_of}
+use Rattle.dashes.specs.declared.spot.Mark.{Mark}
+use Rattle.dashes.specs.declared.spot.Mark.TheVariants.{Cut, Corner}
 use Rattle.dashes.specs.declared.pattern.Beat.{Beat}
 use Rattle.dashes.specs.declared.pattern.Wear.{Wear}
 use Rattle.dashes.specs.declared.spot.Spot.{Spot}

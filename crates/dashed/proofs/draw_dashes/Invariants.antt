@@ -8,10 +8,10 @@ use Rattle.dashed.specs.Dashed.{run_piece}
 use Rattle.dashed.proofs.Drawing.{Drawing}
 use Rattle.dashed.proofs.draw_dashes.Given as goal
 
-abbrev pub invariant-loop-trail : goal.invariant-loop-trail
-invariant-loop-trail l =
-    Drawing l.pass l.r l.p l.first.0 l.ds l.initial.k (run_piece l.pass.stroke l.r l.initial.k.base l.closed l.ds l.offset (run_from l.pass.stroke.near l.p l.first.0 l.i)) (lent l.initial.v l.initial.src l.initial.t) l.k l.trail (lent l.v l.src l.t)
+abbrev pub invariant-loop-next : goal.invariant-loop-next
+invariant-loop-next l =
+    Drawing l.pass l.r l.p l.first.0 l.ds l.initial.k (run_piece l.pass.stroke l.r l.initial.k.base l.closed l.ds l.offset (run_from l.pass.stroke.near l.p l.first.0 l.i)) (lent l.initial.v l.initial.src l.initial.t) l.k l.next (lent l.v l.src l.t)
     × (length l.v ≡ length l.initial.v) × (length l.src ≡ length l.initial.src) × (length l.t ≡ length l.initial.t)
 
-abbrev pub decreases-loop-trail : goal.decreases-loop-trail
-decreases-loop-trail l = length (trail_dashes l.pass.stroke.near l.p l.first.0 l.ds l.trail)
+abbrev pub decreases-loop-next : goal.decreases-loop-next
+decreases-loop-next l = length (trail_dashes l.pass.stroke.near l.p l.first.0 l.ds l.next)

@@ -1,14 +1,13 @@
 -- `feed::turn` meets its contract. Assumes nothing.
+use native.Mathlib.Omega.{arith}
 use Rattle.feed.proofs.Feeding.{turn_far, turn_home, turn_end}
 use Rattle.feed.proofs.turn.Goals as goal
 
-pub returns-then-i-p : goal.returns-then-i-p
-returns-then-i-p c =
-    turn_far _ _ _ _ _ c.next_far-i.ensures _ _ c.if-i-p.true c.endpoint_at-c.ensures c.turned.ensures
+pub returns-in-Some : goal.returns-in-Some
+returns-in-Some c = let far = c.in-Some.ensures in turn_far _ _ _ _ _ far.0 _ _ far.1 c.endpoint_at.ensures c.turned.ensures
 
-pub returns-then-f : goal.returns-then-f
-returns-then-f c =
-    turn_home _ _ _ _ _ c.next_far-i.ensures _ _ c.if-i-p.false c.if-f.true c.endpoint_at-p0.ensures c.turned-then-f.ensures
+pub returns-in-None : goal.returns-in-None
+returns-in-None c = turn_home _ _ _ _ _ c.in-None.ensures _ _ (omega arith) c.if-f.true c.endpoint_at-in-None.ensures c.turned-in-None.ensures
 
-pub returns : goal.returns
-returns c = turn_end _ _ _ _ _ c.next_far-i.ensures c.if-i-p.false c.if-f.false
+pub returns-in-None-2 : goal.returns-in-None-2
+returns-in-None-2 c = turn_end _ _ _ _ _ c.in-None.ensures (omega arith) c.if-f.false

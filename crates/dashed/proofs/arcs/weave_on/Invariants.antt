@@ -2,14 +2,14 @@
 use mathlib.Core.Path.{◌≡◌}
 use lib.ListN.{length}
 use Rattle.pieces.specs.Piece.{lent}
-use Rattle.feed.specs.Trail.{next_points}
+use Rattle.feed.specs.Trail.{trail_points}
 use Rattle.dashed.proofs.Weaving.{Weaving}
 use Rattle.dashed.proofs.arcs.weave_on.Given as goal
 
-abbrev pub invariant-loop-n : goal.invariant-loop-n
-invariant-loop-n l =
-    Weaving l.pass l.r l.p l.first.0 l.ds l.initial.w l.initial.n (lent l.initial.v l.initial.src l.initial.t) l.w l.n (lent l.v l.src l.t)
+abbrev pub invariant-loop-q : goal.invariant-loop-q
+invariant-loop-q l =
+    Weaving l.pass l.r l.p l.first.0 l.ds l.initial.w l.initial.trail (lent l.initial.v l.initial.src l.initial.t) l.w l.trail (lent l.v l.src l.t)
     × (length l.v ≡ length l.initial.v) × (length l.src ≡ length l.initial.src) × (length l.t ≡ length l.initial.t)
 
-abbrev pub decreases-loop-n : goal.decreases-loop-n
-decreases-loop-n l = length (next_points l.pass.stroke.near l.p l.first.0 l.ds l.n)
+abbrev pub decreases-loop-q : goal.decreases-loop-q
+decreases-loop-q l = length (trail_points l.pass.stroke.near l.p l.first.0 l.ds l.trail)
