@@ -1,6 +1,6 @@
 -- What the passes tell is what the definitions say of the runs; and refusals 1 to 4 and 26, whatever would come then. Assumes nothing.
 use Prim.Native.Nat.{ℕ, ◌+◌, ◌-◌, ◌*◌, ◌/◌, ◌≤◌}
-use mathlib.Core.Path.{◌≡◌, refl, ap}
+use mathlib.Core.Path.{◌≡◌, refl, ap, ◌∙◌}
 use mathlib.Core.Bool.{Bool, true, false, cond}
 use mathlib.Core.List.{List, ◌++◌}
 use native.Mathlib.Omega.{arith}
@@ -9,6 +9,7 @@ use lib.Dec.{ltb, eqb}
 use lib.Ieee.{Float}
 use lib.ListN.{length, take, drop, take-append-drop}
 use lib.Seq.{take-add}
+use Rattle.std.specs.Prelude.{Ok, Err}
 use Rattle.refusals.specs.Numbers.{number_of, verdict_of, accepted, vertex_room, no_run}
 use Rattle.refusals.specs.declared.Refusal.{Refusal}
 use Rattle.refusals.specs.declared.Refusal.TheVariants.{OutOfRange, TooManyVerbs, Verb, Coordinate, TooManyCuts}
@@ -32,20 +33,20 @@ use Rattle.mesh.proofs.Rooms.{counts_are, counts_limited}
 use Rattle.measure.specs.Answer.{measured_answer_of, with_part, without_part, part_answer_of, once_accepted}
 use Rattle.measure.specs.Judged.{Judgeable, judged_of}
 use Rattle.measure.specs.Measure.{counts_of}
-use Rattle.measure.specs.Part.{part_at, found_of, stroked_part_of, part_of, handed_of}
+use Rattle.measure.specs.Part.{part_at, found_of, stroked_part_of, part_of, handed_answer_of, handed_of}
 use Rattle.measure.specs.declared.answer.PartAnswer.{PartAnswer}
-use Rattle.measure.specs.declared.answer.Measured.TheVariants as measured
-use Rattle.measure.specs.declared.answer.Found.TheVariants as found
+use Rattle.measure.specs.declared.answer.PartError.{PartError}
+use Rattle.measure.specs.declared.answer.PartError.TheVariants.{Refused, VertexRoom, NoRun}
 
 -- ---- refusals 1 to 4 and 26
-pub measure_refused : (r : Refusal) (next : MeshAnswer) → measured_answer_of (measured.Refused r) ≡ once_accepted with_place (verdict_of r).number (verdict_of r).place next
+pub measure_refused : (r : Refusal) (next : MeshAnswer) → measured_answer_of (Err r) ≡ once_accepted with_place (verdict_of r).number (verdict_of r).place next
 measure_refused OutOfRange next = refl
 measure_refused TooManyVerbs next = refl
 measure_refused (Verb i) next = refl
 measure_refused (Coordinate i) next = refl
 measure_refused TooManyCuts next = refl
 
-pub part_refused : (r : Refusal) (next : PartAnswer) → part_answer_of (found.Refused r) ≡ once_accepted without_part (verdict_of r).number (verdict_of r).place next
+pub part_refused : (r : Refusal) (next : PartAnswer) → part_answer_of (Err (Refused r)) ≡ once_accepted without_part (verdict_of r).number (verdict_of r).place next
 part_refused OutOfRange next = refl
 part_refused TooManyVerbs next = refl
 part_refused (Verb i) next = refl
@@ -53,7 +54,7 @@ part_refused (Coordinate i) next = refl
 part_refused TooManyCuts next = refl
 
 -- ---- the counts
-pub counts_told : (o : Stroke) (rs : List (Run Endpoint)) {c : Place} → c ≡ behind undrawn (mesh_piece o undrawn rs) → measured_answer_of (measured.Counts c.vertices c.triangles) ≡ counts_of o rs
+pub counts_told : (o : Stroke) (rs : List (Run Endpoint)) {c : Place} → c ≡ behind undrawn (mesh_piece o undrawn rs) → measured_answer_of (Ok (record { vertices = c.vertices; triangles = c.triangles })) ≡ counts_of o rs
 counts_told o rs {c} e = let h = counts_are o rs c e in rw (h.0, h.1)
 
 -- ---- a run's vertices: those up to its end are those before it and its own, of all its dashes
@@ -85,14 +86,14 @@ told_judgeable o ds k verbs coords s =
     record { order = omega (arith, through_is o ds k rs); few = omega (arith, through_few o ds k rs, (counts_limited o ds verbs coords s.0 s.1).0) }
 
 -- ---- where the part stands
-module _ (before through : ℕ) where
-  pub part_none : before ≡ through → with_part 0 0 ≡ part_at before (through - before)
+module _ (before own : ℕ) where
+  pub part_none : 5 * own ≡ 0 → with_part 0 (5 * own) ≡ part_at before own
   unfolding part_at
-  part_none e = let z : through - before ≡ 0 = omega (arith, e) in rw z
+  part_none e = let z : own ≡ 0 = omega (arith, e) in rw z
 
-  pub part_some : before ≤ through → (before ≡ through → ⊥) → with_part (5 * before) (5 * (through - before)) ≡ part_at before (through - before)
+  pub part_some : (5 * own ≡ 0 → ⊥) → with_part (5 * before) (5 * own) ≡ part_at before own
   unfolding part_at
-  part_some h d = rw (ne_eqb (through - before) 0 (λ e. d (omega (arith, h, e))))
+  part_some d = rw (ne_eqb own 0 (λ e. d (omega (arith, e))))
 
 -- ---- the part lies within the list
 abbrev Within : ℕ → PartAnswer → Type 0
@@ -135,3 +136,19 @@ module _ (verbs : List ℕ) (coords : List Float) (options : Options) (ds : List
   pub told_handed : record { number = a.number; place = a.place; part = take (a.start + a.length - a.start) (drop a.start v) } ≡ handed_of verbs coords options ds k v
   unfolding handed_of
   told_handed = let n : a.start + a.length - a.start ≡ a.length = omega arith in rw (n, e)
+
+-- a refusal hands nothing back
+module _ (v : List Float) where
+  refused_none : (e : PartError) → handed_answer_of (Err e) ≡ (let p = part_answer_of (Err e) in record { number = p.number; place = p.place; part = take p.length (drop p.start v) })
+  refused_none (Refused OutOfRange) = refl
+  refused_none (Refused TooManyVerbs) = refl
+  refused_none (Refused (Verb i)) = refl
+  refused_none (Refused (Coordinate i)) = refl
+  refused_none (Refused TooManyCuts) = refl
+  refused_none VertexRoom = refl
+  refused_none NoRun = refl
+
+module _ (verbs : List ℕ) (coords : List Float) (options : Options) (ds : List Float) (k : ℕ) (v : List Float) (e : PartError) where
+  pub told_refused : part_answer_of (Err e) ≡ part_of verbs coords options ds k (length v) → handed_answer_of (Err e) ≡ handed_of verbs coords options ds k v
+  unfolding handed_of
+  told_refused h = refused_none v e ∙ rw h

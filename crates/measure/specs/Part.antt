@@ -1,7 +1,8 @@
 -- W-210: "the part of the vertex list that the run of a given number, from 0 over the begin verbs, wrote", or "1 to 4, then 6 for a list too short for the whole mesh,
 -- then 19, no run of that number; each with an empty part". W-213: 26 behind 4, and "W-210's number of the uncut": a run's part has all its dashes. Assumes nothing.
-use Rattle.std.specs.Prelude.{ℕ, ◌*◌, ◌/◌, cond, List, ltb, eqb, Float, length, take, drop}
-use Rattle.refusals.specs.Numbers.{number_of, vertex_room, no_run}
+use Rattle.std.specs.Prelude.{ℕ, ◌*◌, ◌/◌, cond, List, [], Result, Ok, Err, ltb, eqb, Float, length, take, drop}
+use Rattle.std.specs.Borrow.{Bor}
+use Rattle.refusals.specs.Numbers.{number_of, accepted, vertex_room, no_run}
 use Rattle.endpoint.specs.declared.Endpoint.{Endpoint}
 use Rattle.options.specs.Options.{stroke_of}
 use Rattle.options.specs.declared.Options.{Options}
@@ -10,8 +11,9 @@ use Rattle.cuts.specs.Checked.{cut_checked_of}
 use Rattle.path.specs.Runs.{Run}
 use Rattle.runs.specs.Part.{run_at}
 use Rattle.runs.specs.Runs.{runs_of, cut_of, mesh_count, mesh_counts}
-use Rattle.measure.specs.Answer.{with_part, without_part, once_accepted}
+use Rattle.measure.specs.Answer.{with_part, without_part, part_answer_of, once_accepted}
 use Rattle.measure.specs.declared.answer.PartAnswer.{PartAnswer}
+use Rattle.measure.specs.declared.answer.PartError.{PartError}
 
 -- of so many vertices behind so many others: five floats each; an empty part begins at 0
 unfoldable pub part_at : ℕ → ℕ → PartAnswer
@@ -37,6 +39,11 @@ pub record Handed : Type 0 where
   pub number : ℕ
   pub place : ℕ
   pub part : List Float
+
+-- `run_vertices`' answer: the number, the place and the part; "each with an empty part"
+abbrev pub handed_answer_of : Result (Bor (List Float)) PartError → Handed
+handed_answer_of (Ok part) = record { number = number_of accepted; place = 0; part = part.now }
+handed_answer_of (Err e) = let a = part_answer_of (Err e) in record { number = a.number; place = a.place; part = [] }
 
 unfoldable pub handed_of : List ℕ → List Float → Options → List Float → ℕ → List Float → Handed
 handed_of verbs coords options ds k v = let a = part_of verbs coords options ds k (length v) in record { number = a.number; place = a.place; part = take a.length (drop a.start v) }

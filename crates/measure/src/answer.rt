@@ -1,22 +1,21 @@
 // What measuring and the call for a run's part answer.
 ghost use Rattle.std.specs.Prelude.{◌≡◌};
-ghost use Rattle.measure.specs.Answer.{measured_answer_of, with_part, without_part, part_answer_of};
+ghost use Rattle.measure.specs.Answer.{measured_answer_of, without_part, part_answer_of};
+ghost use Rattle.measure.specs.declared.answer.PartError.TheVariants.{Refused};
 
-use mesh::answer::{MeshAnswer, with_counts, with_place};
+use mesh::answer::{MeshAnswer, MeshError, MeshSize};
 use refusals::{Meaning, Refusal, verdict_of};
 
-// Both counts, vertices and triangles, or the first of refusals 1 to 4 and 26.
-#[derive(Drop)]
-pub enum Measured {
-    Counts(usize, usize),
-    Refused(Refusal),
+// Where a run's part of a vertex list stands: its start, and how many floats it has; both are 0 where the run drew nothing.
+#[derive(Clone, Copy)]
+pub struct Part {
+    pub start: usize,
+    pub length: usize,
 }
 
-// Where a run's part of a vertex list stands, or the first refusal by number.
-#[derive(Drop)]
-pub enum Found {
-    // Its start, and how many floats it has; both are 0 where the run drew nothing.
-    Part(usize, usize),
+// Why there is no part: the first refusal by number.
+#[derive(Clone, Copy)]
+pub enum PartError {
     // Refusals 1 to 4, and 26.
     Refused(Refusal),
     // Refusal 6: the list is too short for the whole mesh.
@@ -25,8 +24,16 @@ pub enum Found {
     NoRun,
 }
 
-// The same in the terms of document 01's table; a refusal's part is empty.
-#[derive(Drop)]
+impl From<Refusal> for PartError {
+    ghost from_gives = { λ r e. e ≡ Refused r };
+
+    fn from(r: Refusal) -> PartError {
+        PartError::Refused(r)
+    }
+}
+
+// What the call says, in the terms of document 01's table; a refusal's part is empty.
+#[derive(Clone, Copy)]
 pub struct PartAnswer {
     pub number: u32,
     pub place: usize,
@@ -34,42 +41,32 @@ pub struct PartAnswer {
     pub length: usize,
 }
 
-// The number, the place and both counts that an answer stands for.
-pub fn measured_answer_of(answer: Measured) -> MeshAnswer
+// The number, the place and both counts that measuring's answer stands for. No `From`: the types are the mesh call's.
+pub fn measured_answer_of(answer: Result<MeshSize, Refusal>) -> MeshAnswer
     ensures { result ≡ measured_answer_of answer }
 {
-    match answer {
-        Measured::Counts(n, m) => with_counts(Meaning::Accepted as u32, n, m),
-        Measured::Refused(r) => {
-            let verdict = verdict_of(r);
-            with_place(verdict.number, verdict.place)
-        }
-    }
+    MeshAnswer::from(answer.map_err(MeshError::Refused))
 }
 
 // The number, the place and the part that an answer stands for.
-pub fn part_answer_of(answer: Found) -> PartAnswer
-    ensures { result ≡ part_answer_of answer }
-{
-    match answer {
-        Found::Part(start, length) => with_part(start, length),
-        Found::Refused(r) => {
-            let verdict = verdict_of(r);
-            without_part(verdict.number, verdict.place)
-        }
-        Found::VertexRoom => without_part(Meaning::VertexRoom as u32, 0),
-        Found::NoRun => without_part(Meaning::NoRun as u32, 0),
-    }
-}
+impl From<Result<Part, PartError>> for PartAnswer {
+    ghost from_gives = { λ r a. a ≡ part_answer_of r };
 
-fn with_part(start: usize, length: usize) -> PartAnswer
-    ensures { result ≡ with_part start length }
-{
-    PartAnswer {
-        number: Meaning::Accepted as u32,
-        place: 0,
-        start: start,
-        length: length,
+    fn from(r: Result<Part, PartError>) -> PartAnswer {
+        match r {
+            Ok(part) => PartAnswer {
+                number: Meaning::Accepted as u32,
+                place: 0,
+                start: part.start,
+                length: part.length,
+            },
+            Err(PartError::Refused(refusal)) => {
+                let verdict = verdict_of(refusal);
+                without_part(verdict.number, verdict.place)
+            }
+            Err(PartError::VertexRoom) => without_part(Meaning::VertexRoom as u32, 0),
+            Err(PartError::NoRun) => without_part(Meaning::NoRun as u32, 0),
+        }
     }
 }
 
@@ -77,8 +74,8 @@ fn without_part(number: u32, place: usize) -> PartAnswer
     ensures { result ≡ without_part number place }
 {
     PartAnswer {
-        number: number,
-        place: place,
+        number,
+        place,
         start: 0,
         length: 0,
     }

@@ -1,14 +1,15 @@
 -- A path that is accepted is small enough to be counted and drawn, and where its answer is a mesh the lists have room for it. Assumes nothing.
-use Prim.Native.Nat.{ℕ, ◌+◌, ◌-◌, ◌*◌, ◌/◌, ◌^◌, ◌≤◌}
+use Prim.Native.Nat.{ℕ, min, ◌+◌, ◌-◌, ◌*◌, ◌/◌, ◌^◌, ◌≤◌}
 use mathlib.Core.Path.{◌≡◌, refl, sym, ap, ◌∙◌}
-use mathlib.Core.Bool.{Bool, true, false, ◌&&◌, cond, false≢true}
+use mathlib.Core.Bool.{Bool, true, false, cond, false≢true}
 use mathlib.Core.List.{List, [], ◌∷◌, ◌++◌}
 use native.Mathlib.Nat.{le_trans, le_of_eq, mul-le-mul, mul-le-mul_left, mul-le-mul_right, pow-le-pow_right, div-mul-le_self}
 use native.Mathlib.Omega.{arith}
 use lib.Dec.{ltb, eqb, lit≤}
 use lib.Ieee.{Float}
 use lib.ListN.{length, take, drop, length-append, length-take, length-drop}
-use borrow.Author.Tests.{le-ltb, ltb-true, ltb-false, eqb-true}
+use borrow.Author.Tests.{le-ltb, ltb-true, ltb-false}
+use Rattle.std.specs.Prelude.{Ok, Err}
 use Rattle.refusals.specs.Numbers.{number_of, verdict_of, accepted, vertex_room, triangle_room}
 use Rattle.refusals.specs.declared.Refusal.{Refusal}
 use Rattle.refusals.specs.declared.Refusal.TheVariants.{OutOfRange, TooManyVerbs, Verb, Coordinate, TooManyCuts}
@@ -37,7 +38,8 @@ use Rattle.mesh.specs.Answer.{with_counts, mesh_answer_of, is_mesh, smaller_of, 
 use Rattle.mesh.specs.Mesh.{Outcome, refused, vertex_places, room_for, accepted_of, once_accepted}
 use Rattle.mesh.specs.Parts.{Counted}
 use Rattle.mesh.specs.declared.answer.MeshAnswer.{MeshAnswer}
-use Rattle.mesh.specs.declared.answer.Meshed.TheVariants.{Mesh, Refused}
+use Rattle.mesh.specs.declared.answer.MeshError.{MeshError}
+use Rattle.mesh.specs.declared.answer.MeshError.TheVariants.{Refused, VertexRoom, TriangleRoom}
 
 pub sound_paired : (vs : List ℕ) (cs : List Float) → Sound vs cs → Paired vs cs
 sound_paired vs cs s = record { points = s.paired; few = omega (arith, s.paired, s.few, count_le vs) }
@@ -73,6 +75,13 @@ smaller_both a b = go (ltb b a) refl
     go : (t : Bool) → ltb b a ≡ t → (cond t b a ≤ a) × (cond t b a ≤ b)
     go true e = (omega (arith, ltb-true b a e), omega arith)
     go false e = (omega arith, ltb-false b a e)
+
+pub smaller_min : (a b : ℕ) → min a b ≡ smaller_of a b
+smaller_min a b = go (ltb b a) refl
+  where
+    go : (t : Bool) → ltb b a ≡ t → min a b ≡ cond t b a
+    go true e = omega (arith, ltb-true b a e)
+    go false e = omega (arith, ltb-false b a e)
 
 pub smaller_least : (n a b : ℕ) → n ≤ a → n ≤ b → n ≤ smaller_of a b
 smaller_least n a b h g = go (ltb b a)
@@ -167,6 +176,16 @@ module _ (o : Stroke) (rs : List (Run Endpoint)) where
       ≡ lent (over (flat_v (mesh_vertices o rs)) l.vertices) (over (flat_s (mesh_vertices o rs)) l.sources) (over (flat_t (mesh_triangles o 0 rs)) l.triangles)
   drawn_is {l} e = e.lists refl ∙ laid_start undrawn.base (mesh_piece o undrawn rs) l
 
+-- what is refused is no mesh
+pub no_mesh : (e : MeshError) → is_mesh (mesh_answer_of (Err e)) ≡ false
+no_mesh (Refused OutOfRange) = refl
+no_mesh (Refused TooManyVerbs) = refl
+no_mesh (Refused (Verb i)) = refl
+no_mesh (Refused (Coordinate i)) = refl
+no_mesh (Refused TooManyCuts) = refl
+no_mesh (VertexRoom size) = refl
+no_mesh (TriangleRoom size) = refl
+
 -- it is a mesh only where there is room for both
 roomed_room : (n m nv nt : ℕ) → is_mesh (roomed_of n m nv nt) ≡ true → (n ≤ nv) × (m ≤ nt)
 roomed_room n m nv nt e = go (ltb nv n) refl (ltb nt m) refl e
@@ -193,7 +212,7 @@ module _ (o : Stroke) (ds : List Float) (vs : List ℕ) (cs : List Float) (s : S
     plenty_fits = room_fits o ds vs cs s f l v_room t_room
 
     pub plenty_drawn : {l' : Lists} {k : Place} → Passes true undrawn (mesh_piece o undrawn (path_runs o ds vs cs)) l l' k
-        → record { answer = mesh_answer_of (Mesh k.vertices k.triangles); lists = l' } ≡ outcome
+        → record { answer = mesh_answer_of (Ok (record { vertices = k.vertices; triangles = k.triangles })); lists = l' } ≡ outcome
     unfolding accepted_of
     plenty_drawn {l'} {k} e =
         let c = counts_are o (path_runs o ds vs cs) k e.place in
@@ -220,11 +239,6 @@ module _ (o : Stroke) (ds : List Float) (vs : List ℕ) (cs : List Float) (s : S
     unfolding accepted_of
     is_refused e = rw (answer_is, ap is_mesh (sym answer_is) ∙ e, k.lists)
 
--- room to spare, and no dashes
-pub spare : (plenty : Bool) (n : ℕ) → plenty && eqb n 0 ≡ true → (plenty ≡ true) × (n ≡ 0)
-spare true n e = (refl, eqb-true n 0 e)
-spare false n e = absurd (false≢true e)
-
 -- ---- parts of no places, put back
 none_back : {A : Type 0} (xs ys : List A) → length ys ≡ 0 → ys ++ xs ≡ xs
 none_back xs [] e = refl
@@ -235,7 +249,7 @@ pub counted : (o : Stroke) (rs : List (Run Endpoint)) (v v2 : List Float) (s s2 
 counted o rs v v2 s s2 t t2 lv ls lt e = record { place = e.place; lists = rw (none_back v v2 lv, none_back s s2 ls, none_back t t2 lt) }
 
 -- ---- refusals 1 to 4 and 26, whatever would come then
-pub refused_first : (l : Lists) (r : Refusal) (next : Outcome) → refused l (mesh_answer_of (Refused r)) ≡ once_accepted l (verdict_of r).number (verdict_of r).place next
+pub refused_first : (l : Lists) (r : Refusal) (next : Outcome) → refused l (mesh_answer_of (Err (Refused r))) ≡ once_accepted l (verdict_of r).number (verdict_of r).place next
 refused_first l OutOfRange next = refl
 refused_first l TooManyVerbs next = refl
 refused_first l (Verb i) next = refl

@@ -1,8 +1,9 @@
 -- The mesh call's answer. Assumes nothing.
-use Rattle.std.specs.Prelude.{ℕ, ◌*◌, ◌^◌, ◌≤◌, Bool, cond, ltb, eqb}
+use Rattle.std.specs.Prelude.{ℕ, ◌*◌, ◌^◌, ◌≤◌, Bool, cond, Result, Ok, Err, ltb, eqb}
 use Rattle.refusals.specs.Numbers.{number_of, verdict_of, accepted, vertex_room, triangle_room}
-use Rattle.mesh.specs.declared.answer.Meshed.{Meshed}
-use Rattle.mesh.specs.declared.answer.Meshed.TheVariants.{Mesh, Refused, VertexRoom, TriangleRoom}
+use Rattle.mesh.specs.declared.answer.MeshSize.{MeshSize}
+use Rattle.mesh.specs.declared.answer.MeshError.{MeshError}
+use Rattle.mesh.specs.declared.answer.MeshError.TheVariants.{Refused, VertexRoom, TriangleRoom}
 use Rattle.mesh.specs.declared.answer.MeshAnswer.{MeshAnswer}
 use Rattle.mesh.specs.declared.answer.Rooms.{Rooms}
 
@@ -14,11 +15,11 @@ abbrev pub with_place : ℕ → ℕ → MeshAnswer
 with_place number place = record { number = number; place = place; vertices = 0; triangles = 0 }
 
 -- what each case of `tessellate`'s answer stands for: the number, the place and both counts
-abbrev pub mesh_answer_of : Meshed → MeshAnswer
-mesh_answer_of (Mesh n m) = with_counts (number_of accepted) n m
-mesh_answer_of (Refused r) = let a = verdict_of r in with_place a.number a.place
-mesh_answer_of (VertexRoom n m) = with_counts (number_of vertex_room) n m
-mesh_answer_of (TriangleRoom n m) = with_counts (number_of triangle_room) n m
+abbrev pub mesh_answer_of : Result MeshSize MeshError → MeshAnswer
+mesh_answer_of (Ok size) = with_counts (number_of accepted) size.vertices size.triangles
+mesh_answer_of (Err (Refused r)) = let a = verdict_of r in with_place a.number a.place
+mesh_answer_of (Err (VertexRoom size)) = with_counts (number_of vertex_room) size.vertices size.triangles
+mesh_answer_of (Err (TriangleRoom size)) = with_counts (number_of triangle_room) size.vertices size.triangles
 
 -- "0: accepted"
 abbrev pub is_mesh : MeshAnswer → Bool

@@ -1,5 +1,5 @@
 -- The mesh call: its answer in document 01's numbers, and all lists whole, for every path, every option and all lists. Assumes nothing.
-use Rattle.std.specs.Prelude.{ℕ, ◌/◌, cond, List, eqb, Float, length}
+use Rattle.std.specs.Prelude.{ℕ, ◌/◌, cond, List, Result, eqb, Float, length}
 use Rattle.refusals.specs.Numbers.{number_of, accepted}
 use Rattle.endpoint.specs.declared.Endpoint.{Endpoint}
 use Rattle.lists.specs.Over.{over}
@@ -11,7 +11,8 @@ use Rattle.options.specs.declared.Stroke.{Stroke}
 use Rattle.pieces.specs.Piece.{Lists, lent, flat_v, flat_s, flat_t}
 use Rattle.runs.specs.Runs.{path_runs, mesh_vertices, mesh_count, mesh_triangles}
 use Rattle.mesh.specs.Answer.{mesh_answer_of, with_place, is_mesh, smaller_of, roomed_of}
-use Rattle.mesh.specs.declared.answer.Meshed.{Meshed}
+use Rattle.mesh.specs.declared.answer.MeshSize.{MeshSize}
+use Rattle.mesh.specs.declared.answer.MeshError.{MeshError}
 use Rattle.mesh.specs.declared.answer.MeshAnswer.{MeshAnswer}
 
 -- the numbers of an answer, and the lent lists after the call
@@ -20,7 +21,7 @@ pub record Outcome : Type 0 where
   pub lists : Lists
 
 -- what a call left that answered so
-abbrev pub answered : Meshed → List Float → List ℕ → List ℕ → Outcome
+abbrev pub answered : Result MeshSize MeshError → List Float → List ℕ → List ℕ → Outcome
 answered r v s t = record { answer = mesh_answer_of r; lists = lent v s t }
 
 -- the lists that are lent

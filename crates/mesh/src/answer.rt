@@ -1,24 +1,31 @@
 // What the mesh call answers.
 ghost use Rattle.std.specs.Prelude.{true, ◌≡◌, ◌≤◌};
-ghost use Rattle.mesh.specs.Answer.{mesh_answer_of, with_counts, with_place, is_mesh, smaller_of, roomed_of, Plenty};
+ghost use Rattle.mesh.specs.Answer.{mesh_answer_of, with_counts, roomed_of, Plenty};
+ghost use Rattle.mesh.specs.declared.answer.MeshError.TheVariants.{Refused};
 
 use pieces::Place;
 use refusals::{Meaning, Refusal, verdict_of};
 
-// A mesh, or the first refusal by number. A mesh and the refusals for want of room have both counts: vertices, then triangles.
+// How many vertices and triangles a mesh has.
 #[derive(Clone, Copy)]
-pub enum Meshed {
-    Mesh(usize, usize),
+pub struct MeshSize {
+    pub vertices: usize,
+    pub triangles: usize,
+}
+
+// Why a path gets no mesh: the first refusal by number. Those for want of room have both counts.
+#[derive(Clone, Copy)]
+pub enum MeshError {
     // Refusals 1 to 4, and 26.
     Refused(Refusal),
     // Refusal 6: too few vertex places.
-    VertexRoom(usize, usize),
+    VertexRoom(MeshSize),
     // Refusal 7: too few triangle places.
-    TriangleRoom(usize, usize),
+    TriangleRoom(MeshSize),
 }
 
-// The same in the terms of document 01's table.
-#[derive(Drop)]
+// What the call says, in the terms of document 01's table.
+#[derive(Clone, Copy)]
 pub struct MeshAnswer {
     pub number: u32,
     pub place: usize,
@@ -33,14 +40,23 @@ pub struct Rooms {
     pub triangles: usize,
 }
 
-// Of two rooms the smaller.
-pub fn smaller(a: usize, b: usize) -> usize
-    ensures { result ≡ smaller_of a b }
-{
-    if b < a {
-        return b;
+impl From<Place> for MeshSize {
+    ghost from_gives = { λ d size. size ≡ record { vertices = d.vertices; triangles = d.triangles } };
+
+    fn from(d: Place) -> MeshSize {
+        MeshSize {
+            vertices: d.vertices,
+            triangles: d.triangles,
+        }
     }
-    a
+}
+
+impl From<Refusal> for MeshError {
+    ghost from_gives = { λ r e. e ≡ Refused r };
+
+    fn from(r: Refusal) -> MeshError {
+        MeshError::Refused(r)
+    }
 }
 
 // Whether there is room for the most that so many coordinates can need: four vertices and four triangles to a point, twice as many with each level of arcs.
@@ -52,61 +68,48 @@ pub fn is_plenty(r: Rooms, coords: usize, level: u32) -> bool
 }
 
 // Refusals 6 and 7, by what a path needs.
-pub fn judged(d: Place, r: Rooms) -> Meshed
+pub fn judged(d: Place, r: Rooms) -> Result<MeshSize, MeshError>
     ensures { mesh_answer_of result ≡ roomed_of d.vertices d.triangles r.vertices r.triangles }
 {
-    let n = d.vertices;
-    let m = d.triangles;
-    if r.vertices < n {
-        return Meshed::VertexRoom(n, m);
+    let size = MeshSize::from(d);
+    if r.vertices < size.vertices {
+        return Err(MeshError::VertexRoom(size));
     }
-    if r.triangles < m {
-        return Meshed::TriangleRoom(n, m);
+    if r.triangles < size.triangles {
+        return Err(MeshError::TriangleRoom(size));
     }
-    Meshed::Mesh(n, m)
-}
-
-// Whether it is a mesh.
-pub fn fits(answer: Meshed) -> bool
-    ensures { result ≡ is_mesh (mesh_answer_of answer) }
-{
-    let a = mesh_answer_of(answer);
-    a.number == Meaning::Accepted as u32
+    Ok(size)
 }
 
 // The number, the place and both counts that an answer stands for.
-pub fn mesh_answer_of(answer: Meshed) -> MeshAnswer
-    ensures { result ≡ mesh_answer_of answer }
-{
-    match answer {
-        Meshed::Mesh(n, m) => with_counts(Meaning::Accepted as u32, n, m),
-        Meshed::Refused(r) => {
-            let verdict = verdict_of(r);
-            with_place(verdict.number, verdict.place)
+impl From<Result<MeshSize, MeshError>> for MeshAnswer {
+    ghost from_gives = { λ r a. a ≡ mesh_answer_of r };
+
+    fn from(r: Result<MeshSize, MeshError>) -> MeshAnswer {
+        match r {
+            Ok(size) => with_counts(Meaning::Accepted as u32, size),
+            Err(MeshError::Refused(refusal)) => {
+                let verdict = verdict_of(refusal);
+                MeshAnswer {
+                    number: verdict.number,
+                    place: verdict.place,
+                    vertices: 0,
+                    triangles: 0,
+                }
+            }
+            Err(MeshError::VertexRoom(size)) => with_counts(Meaning::VertexRoom as u32, size),
+            Err(MeshError::TriangleRoom(size)) => with_counts(Meaning::TriangleRoom as u32, size),
         }
-        Meshed::VertexRoom(n, m) => with_counts(Meaning::VertexRoom as u32, n, m),
-        Meshed::TriangleRoom(n, m) => with_counts(Meaning::TriangleRoom as u32, n, m),
     }
 }
 
-pub fn with_counts(number: u32, vertices: usize, triangles: usize) -> MeshAnswer
-    ensures { result ≡ with_counts number vertices triangles }
+fn with_counts(number: u32, size: MeshSize) -> MeshAnswer
+    ensures { result ≡ with_counts number size.vertices size.triangles }
 {
     MeshAnswer {
-        number: number,
+        number,
         place: 0,
-        vertices: vertices,
-        triangles: triangles,
-    }
-}
-
-pub fn with_place(number: u32, place: usize) -> MeshAnswer
-    ensures { result ≡ with_place number place }
-{
-    MeshAnswer {
-        number: number,
-        place: place,
-        vertices: 0,
-        triangles: 0,
+        vertices: size.vertices,
+        triangles: size.triangles,
     }
 }

@@ -7,14 +7,13 @@ ghost use Rattle.std.specs.Prelude.{◌≡◌};
 ghost use Rattle.pieces.specs.Piece.{lent};
 ghost use Rattle.path.specs.Path.{Sound};
 ghost use Rattle.runs.specs.Runs.{runs_of, CutsFew, path_runs};
-ghost use Rattle.mesh.specs.Mesh.{answered, accepted_of, stroked_of, outcome_of};
+ghost use Rattle.mesh.specs.Mesh.{answered, accepted_of, outcome_of};
 ghost use Rattle.mesh.specs.Parts.{Counted};
 
-use crate::answer::{Meshed, Rooms, fits, is_plenty, judged, smaller};
+use crate::answer::{MeshError, MeshSize, Rooms, is_plenty, judged};
 use along::Pass;
 use cuts::check_cut_path;
-use options::{Options, Stroke, Stroked, level_of, stroke_of};
-use path::Checked;
+use options::{Options, Stroke, level_of, stroke_of};
 use pieces::{Index, Place};
 use runs::draw_runs;
 
@@ -55,47 +54,26 @@ fn mesh_accepted(
     vertices: &mut [f32],
     sources: &mut [u32],
     triangles: &mut [Index],
-) -> Meshed
+) -> Result<MeshSize, MeshError>
     requires { Sound verbs.now coords.now × CutsFew stroke lengths.now (runs_of verbs.now coords.now) }
     ensures { answered result vertices.new sources.new triangles.new ≡ accepted_of (lent vertices.old sources.old triangles.old) stroke (path_runs stroke lengths.now verbs.now coords.now) }
 {
     let rooms = Rooms {
-        vertices: smaller(vertices.len() / 5, sources.len()),
+        vertices: (vertices.len() / 5).min(sources.len()),
         triangles: triangles.len() / 3,
     };
     let draw = Pass {
         stroke,
         write: true,
     };
-    if is_plenty(rooms, coords.len(), level_of(stroke)) & (lengths.len() == 0) {
+    if is_plenty(rooms, coords.len(), level_of(stroke)) && lengths.is_empty() {
         let d = draw_runs(vertices, sources, triangles, draw, verbs, coords, lengths);
-        return Meshed::Mesh(d.vertices, d.triangles);
+        return Ok(MeshSize::from(d));
     }
     let c = count_accepted(verbs, coords, stroke, lengths, vertices, sources, triangles);
-    let answer = judged(c, rooms);
-    if fits(answer) {
-        draw_runs(vertices, sources, triangles, draw, verbs, coords, lengths);
-    }
-    answer
-}
-
-fn mesh_stroked(
-    verbs: &[u8],
-    coords: &[f32],
-    stroke: Stroke,
-    lengths: &[f32],
-    vertices: &mut [f32],
-    sources: &mut [u32],
-    triangles: &mut [Index],
-) -> Meshed
-    ensures { answered result vertices.new sources.new triangles.new ≡ stroked_of (lent vertices.old sources.old triangles.old) verbs.now coords.now stroke lengths.now }
-{
-    match check_cut_path(verbs, coords, lengths, stroke.offset, stroke.near) {
-        Checked::Accepted => mesh_accepted(
-            verbs, coords, stroke, lengths, vertices, sources, triangles,
-        ),
-        Checked::Refused(r) => Meshed::Refused(r),
-    }
+    let size = judged(c, rooms)?;
+    draw_runs(vertices, sources, triangles, draw, verbs, coords, lengths);
+    Ok(size)
 }
 
 // Strokes a path. The vertices go to the start of one list, five floats each, and where each came from to the start of the next;
@@ -109,13 +87,10 @@ pub fn tessellate(
     vertices: &mut [f32],
     sources: &mut [u32],
     triangles: &mut [Index],
-) -> Meshed
+) -> Result<MeshSize, MeshError>
     ensures { answered result vertices.new sources.new triangles.new ≡ outcome_of verbs.now coords.now options lengths.now (lent vertices.old sources.old triangles.old) }
 {
-    match stroke_of(options, lengths) {
-        Stroked::Stroke(stroke) => mesh_stroked(
-            verbs, coords, stroke, lengths, vertices, sources, triangles,
-        ),
-        Stroked::Refused(r) => Meshed::Refused(r),
-    }
+    let stroke = stroke_of(options, lengths)?;
+    check_cut_path(verbs, coords, lengths, stroke.offset, stroke.near)?;
+    mesh_accepted(verbs, coords, stroke, lengths, vertices, sources, triangles)
 }

@@ -4,6 +4,7 @@ use mathlib.Core.Path.{◌≡◌, refl, sym, ap, ◌∙◌}
 use Prim.Native.Nat.{ℕ}
 use mathlib.Core.Bool.{cond}
 use lib.Dec.{eqb}
+use Rattle.std.specs.Prelude.{Result, Ok, Err}
 use Rattle.refusals.specs.Numbers.{number_of, accepted, out_of_range, too_many_verbs, misplaced_verb, bad_coordinate, vertex_room, long_text, malformed_text, large_number, triangle_room, list_room}
 use Rattle.plane.specs.Normal.{normal_answer_of}
 use Rattle.plane.specs.declared.normal.JoinDirection.{JoinDirection}
@@ -14,15 +15,13 @@ use Rattle.path.specs.Path.{check_answer_of}
 use Rattle.refusals.specs.declared.Refusal.{Refusal}
 use Rattle.refusals.specs.declared.Refusal.TheVariants as refusal
 use Rattle.refusals.specs.declared.Verdict.{Verdict}
-use Rattle.path.specs.declared.Checked.{Checked}
-use Rattle.path.specs.declared.Checked.TheVariants as check
 use Rattle.options.specs.declared.StrokeAnswer.{StrokeAnswer}
-use Rattle.options.specs.declared.Stroked.{Stroked}
-use Rattle.options.specs.declared.Stroked.TheVariants as stroke
+use Rattle.options.specs.declared.Stroke.{Stroke}
 use Rattle.mesh.specs.Answer.{mesh_answer_of}
 use Rattle.mesh.specs.declared.answer.MeshAnswer.{MeshAnswer}
-use Rattle.mesh.specs.declared.answer.Meshed.{Meshed}
-use Rattle.mesh.specs.declared.answer.Meshed.TheVariants as mesh
+use Rattle.mesh.specs.declared.answer.MeshSize.{MeshSize}
+use Rattle.mesh.specs.declared.answer.MeshError.{MeshError}
+use Rattle.mesh.specs.declared.answer.MeshError.TheVariants as mesh
 use Rattle.reader.specs.Answer.{read_answer_of}
 use Rattle.reader.specs.declared.answer.ReadAnswer.{ReadAnswer}
 use Rattle.reader.specs.declared.answer.Reading.{Reading}
@@ -56,56 +55,56 @@ refusal_of number place =
     (cond (eqb number (number_of bad_coordinate)) (refusal.Coordinate place) refusal.TooManyCuts)))
 
 -- ---- stroke_of
-stroked : StrokeAnswer → Stroked
-stroked a = cond (eqb a.number (number_of accepted)) (stroke.Stroke a.stroke) (stroke.Refused (refusal_of a.number a.place))
+stroked : StrokeAnswer → Result Stroke Refusal
+stroked a = cond (eqb a.number (number_of accepted)) (Ok a.stroke) (Err (refusal_of a.number a.place))
 
-stroked_is : (r : Stroked) → stroked (stroke_answer_of r) ≡ r
+stroked_is : (r : Result Stroke Refusal) → stroked (stroke_answer_of r) ≡ r
 unfolding stroked refusal_of
-stroked_is (stroke.Stroke s) = refl
-stroked_is (stroke.Refused refusal.OutOfRange) = refl
-stroked_is (stroke.Refused refusal.TooManyVerbs) = refl
-stroked_is (stroke.Refused (refusal.Verb i)) = refl
-stroked_is (stroke.Refused (refusal.Coordinate i)) = refl
-stroked_is (stroke.Refused refusal.TooManyCuts) = refl
+stroked_is (Ok s) = refl
+stroked_is (Err refusal.OutOfRange) = refl
+stroked_is (Err refusal.TooManyVerbs) = refl
+stroked_is (Err (refusal.Verb i)) = refl
+stroked_is (Err (refusal.Coordinate i)) = refl
+stroked_is (Err refusal.TooManyCuts) = refl
 
-pub one_stroked : (r s : Stroked) → stroke_answer_of r ≡ stroke_answer_of s → r ≡ s
+pub one_stroked : (r s : Result Stroke Refusal) → stroke_answer_of r ≡ stroke_answer_of s → r ≡ s
 one_stroked = same_case stroke_answer_of stroked stroked_is
 
 -- ---- check_path
-checked : Verdict → Checked
-checked a = cond (eqb a.number (number_of accepted)) check.Accepted (check.Refused (refusal_of a.number a.place))
+checked : Verdict → Result Unit Refusal
+checked a = cond (eqb a.number (number_of accepted)) (Ok tt) (Err (refusal_of a.number a.place))
 
-checked_is : (r : Checked) → checked (check_answer_of r) ≡ r
+checked_is : (r : Result Unit Refusal) → checked (check_answer_of r) ≡ r
 unfolding checked refusal_of
-checked_is check.Accepted = refl
-checked_is (check.Refused refusal.OutOfRange) = refl
-checked_is (check.Refused refusal.TooManyVerbs) = refl
-checked_is (check.Refused (refusal.Verb i)) = refl
-checked_is (check.Refused (refusal.Coordinate i)) = refl
-checked_is (check.Refused refusal.TooManyCuts) = refl
+checked_is (Ok tt) = refl
+checked_is (Err refusal.OutOfRange) = refl
+checked_is (Err refusal.TooManyVerbs) = refl
+checked_is (Err (refusal.Verb i)) = refl
+checked_is (Err (refusal.Coordinate i)) = refl
+checked_is (Err refusal.TooManyCuts) = refl
 
-pub one_checked : (r s : Checked) → check_answer_of r ≡ check_answer_of s → r ≡ s
+pub one_checked : (r s : Result Unit Refusal) → check_answer_of r ≡ check_answer_of s → r ≡ s
 one_checked = same_case check_answer_of checked checked_is
 
 -- ---- tessellate
-meshed : MeshAnswer → Meshed
+meshed : MeshAnswer → Result MeshSize MeshError
 meshed a =
-    cond (eqb a.number (number_of accepted)) (mesh.Mesh a.vertices a.triangles)
-    (cond (eqb a.number (number_of vertex_room)) (mesh.VertexRoom a.vertices a.triangles)
-    (cond (eqb a.number (number_of triangle_room)) (mesh.TriangleRoom a.vertices a.triangles) (mesh.Refused (refusal_of a.number a.place))))
+    cond (eqb a.number (number_of accepted)) (Ok (record { vertices = a.vertices; triangles = a.triangles }))
+    (cond (eqb a.number (number_of vertex_room)) (Err (mesh.VertexRoom (record { vertices = a.vertices; triangles = a.triangles })))
+    (cond (eqb a.number (number_of triangle_room)) (Err (mesh.TriangleRoom (record { vertices = a.vertices; triangles = a.triangles }))) (Err (mesh.Refused (refusal_of a.number a.place)))))
 
-meshed_is : (r : Meshed) → meshed (mesh_answer_of r) ≡ r
+meshed_is : (r : Result MeshSize MeshError) → meshed (mesh_answer_of r) ≡ r
 unfolding meshed refusal_of
-meshed_is (mesh.Mesh n m) = refl
-meshed_is (mesh.Refused refusal.OutOfRange) = refl
-meshed_is (mesh.Refused refusal.TooManyVerbs) = refl
-meshed_is (mesh.Refused (refusal.Verb i)) = refl
-meshed_is (mesh.Refused (refusal.Coordinate i)) = refl
-meshed_is (mesh.Refused refusal.TooManyCuts) = refl
-meshed_is (mesh.VertexRoom n m) = refl
-meshed_is (mesh.TriangleRoom n m) = refl
+meshed_is (Ok size) = refl
+meshed_is (Err (mesh.Refused refusal.OutOfRange)) = refl
+meshed_is (Err (mesh.Refused refusal.TooManyVerbs)) = refl
+meshed_is (Err (mesh.Refused (refusal.Verb i))) = refl
+meshed_is (Err (mesh.Refused (refusal.Coordinate i))) = refl
+meshed_is (Err (mesh.Refused refusal.TooManyCuts)) = refl
+meshed_is (Err (mesh.VertexRoom size)) = refl
+meshed_is (Err (mesh.TriangleRoom size)) = refl
 
-pub one_meshed : (r s : Meshed) → mesh_answer_of r ≡ mesh_answer_of s → r ≡ s
+pub one_meshed : (r s : Result MeshSize MeshError) → mesh_answer_of r ≡ mesh_answer_of s → r ≡ s
 one_meshed = same_case mesh_answer_of meshed meshed_is
 
 -- ---- read

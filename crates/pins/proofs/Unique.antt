@@ -5,6 +5,7 @@ use mathlib.Core.Path.{◌≡◌, sym, ap, ◌∙◌}
 use mathlib.Core.List.{List, [], ◌∷◌, ◌++◌}
 use lib.Ieee.{Float}
 use lib.ListN.{length}
+use Rattle.std.specs.Prelude.{Result}
 use Rattle.root.specs.Answer.{Answers, answer_of}
 use Rattle.root.specs.declared.Rooted.{Rooted}
 use Rattle.root.proofs.Laws.{one_answer, one_case}
@@ -21,13 +22,14 @@ use Rattle.window.proofs.Laws.{one_got, one_replaced}
 use Rattle.options.specs.Options.{stroke_of, stroke_answer_of}
 use Rattle.path.specs.Path.{checked_of, check_answer_of}
 use Rattle.cuts.specs.Checked.{cut_checked_of}
-use Rattle.path.specs.declared.Checked.{Checked}
+use Rattle.refusals.specs.declared.Refusal.{Refusal}
 use Rattle.options.specs.declared.Options.{Options}
-use Rattle.options.specs.declared.Stroked.{Stroked}
+use Rattle.options.specs.declared.Stroke.{Stroke}
 use Rattle.pieces.specs.Piece.{Lists}
 use Rattle.mesh.specs.Answer.{mesh_answer_of}
 use Rattle.mesh.specs.Mesh.{Outcome, answered, outcome_of}
-use Rattle.mesh.specs.declared.answer.Meshed.{Meshed}
+use Rattle.mesh.specs.declared.answer.MeshSize.{MeshSize}
+use Rattle.mesh.specs.declared.answer.MeshError.{MeshError}
 use Rattle.reader.specs.Answer.{read_answer_of}
 use Rattle.reader.specs.Outcome as reader
 use Rattle.reader.specs.Reads.{Reads}
@@ -43,7 +45,7 @@ abbrev pub Same : {A B : Type 0} → (A → B) → A → A → Type 0
 Same numbers r s = (numbers r ≡ numbers s) × (r ≡ s)
 
 -- ---- mesh::tessellate: the answer and the three lists
-pub mesh_one : (verbs : List ℕ) (coords : List Float) (options : Options) (ds : List Float) (l : Lists) (r s : Meshed) (v1 v2 : List Float) (s1 s2 t1 t2 : List ℕ)
+pub mesh_one : (verbs : List ℕ) (coords : List Float) (options : Options) (ds : List Float) (l : Lists) (r s : Result MeshSize MeshError) (v1 v2 : List Float) (s1 s2 t1 t2 : List ℕ)
     → answered r v1 s1 t1 ≡ outcome_of verbs coords options ds l
     → answered s v2 s2 t2 ≡ outcome_of verbs coords options ds l
     → Same mesh_answer_of r s × (v1 ≡ v2) × (s1 ≡ s2) × (t1 ≡ t2)
@@ -71,13 +73,13 @@ pub normal_one : (v1 v2 : Point) (r s : JoinDirection) → normal_answer_of r �
 normal_one v1 v2 r s h k = let n = h ∙ sym k in (n, one_direction r s n)
 
 -- ---- options::stroke_of, path::check_path and cuts::check_cut_path, parts of the mesh call
-pub stroke_one : (o : Options) (ds : List Float) (r s : Stroked) → stroke_answer_of r ≡ stroke_of o ds → stroke_answer_of s ≡ stroke_of o ds → Same stroke_answer_of r s
+pub stroke_one : (o : Options) (ds : List Float) (r s : Result Stroke Refusal) → stroke_answer_of r ≡ stroke_of o ds → stroke_answer_of s ≡ stroke_of o ds → Same stroke_answer_of r s
 stroke_one o ds r s h k = let n = h ∙ sym k in (n, one_stroked r s n)
 
-pub check_one : (verbs : List ℕ) (coords : List Float) (r s : Checked) → check_answer_of r ≡ checked_of verbs coords → check_answer_of s ≡ checked_of verbs coords → Same check_answer_of r s
+pub check_one : (verbs : List ℕ) (coords : List Float) (r s : Result Unit Refusal) → check_answer_of r ≡ checked_of verbs coords → check_answer_of s ≡ checked_of verbs coords → Same check_answer_of r s
 check_one verbs coords r s h k = let n = h ∙ sym k in (n, one_checked r s n)
 
-pub cut_check_one : (limit : Float) (ds : List Float) (offset : Float) (verbs : List ℕ) (coords : List Float) (r s : Checked)
+pub cut_check_one : (limit : Float) (ds : List Float) (offset : Float) (verbs : List ℕ) (coords : List Float) (r s : Result Unit Refusal)
     → check_answer_of r ≡ cut_checked_of limit ds offset verbs coords → check_answer_of s ≡ cut_checked_of limit ds offset verbs coords → Same check_answer_of r s
 cut_check_one limit ds offset verbs coords r s h k = let n = h ∙ sym k in (n, one_checked r s n)
 

@@ -4,18 +4,18 @@ use Rattle.measure.specs.Judged.{judged_of}
 use Rattle.measure.proofs.Judging.{part_none, part_some}
 use Rattle.measure.proofs.part.judged.Goals as goal
 
-pub returns-then-room-place : goal.returns-then-room-place
+pub returns-then-room-told : goal.returns-then-room-told
 unfolding judged_of
-returns-then-room-place c = rw (lt-ltb _ _ c.if-room-place.true)
+returns-then-room-told c = rw (lt-ltb _ _ c.if-room-told.true)
 
 pub returns-then-seen-run : goal.returns-then-seen-run
 unfolding judged_of
-returns-then-seen-run c = rw (le-ltb _ _ c.if-room-place.false, le-ltb _ _ c.if-seen-run.true)
+returns-then-seen-run c = rw (le-ltb _ _ c.if-room-told.false, le-ltb _ _ c.if-seen-run.true)
 
-pub returns-then-seen : goal.returns-then-seen
+pub returns-then-length-eq0 : goal.returns-then-length-eq0
 unfolding judged_of
-returns-then-seen c = rw (le-ltb _ _ c.if-room-place.false, lt-ltb _ _ c.if-seen-run.false) (part_none _ _ c.if-seen.true)
+returns-then-length-eq0 c = rw (le-ltb _ _ c.if-room-told.false, lt-ltb _ _ c.if-seen-run.false) (part_none _ _ c.if-length-eq0.true)
 
-pub returns : goal.returns
+pub returns-else-length-eq0 : goal.returns-else-length-eq0
 unfolding judged_of
-returns c = rw (le-ltb _ _ c.if-room-place.false, lt-ltb _ _ c.if-seen-run.false) (part_some _ _ c.requires.order c.if-seen.false)
+returns-else-length-eq0 c = rw (le-ltb _ _ c.if-room-told.false, lt-ltb _ _ c.if-seen-run.false) (part_some _ _ c.if-length-eq0.false)

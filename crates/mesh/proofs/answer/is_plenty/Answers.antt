@@ -1,6 +1,5 @@
 -- `mesh::answer::is_plenty` meets its contract. Assumes nothing.
 use Prim.Native.Nat.{◌/◌, ◌^◌}
-use native.Mathlib.Omega.{arith}
 use borrow.Author.Tests.{leb-true}
 use Rattle.mesh.proofs.Rooms.{shifted_room}
 use Rattle.mesh.proofs.answer.is_plenty.Goals as goal
@@ -10,8 +9,3 @@ returns-then-coords-r c =
     let a = c.args in
     let m = 2 ^ a.level in
     λ e. record { vertices = shifted_room m a.coords a.r.vertices c.if-coords-r.true; triangles = shifted_room m a.coords a.r.triangles (leb-true a.coords (a.r.triangles / m / 2) e) }
-
-pub returns-else-coords-r : goal.returns-else-coords-r
-returns-else-coords-r c =
-    let a = c.args in
-    λ e. absurd (omega (arith, leb-true a.coords (a.r.vertices / 2 ^ a.level / 2) e, c.if-coords-r.false))

@@ -1,9 +1,0 @@
--- `mesh::answer::smaller` meets its contract. Assumes nothing.
-use borrow.Author.Tests.{lt-ltb, le-ltb}
-use Rattle.mesh.proofs.answer.smaller.Goals as goal
-
-pub returns-then-b-a : goal.returns-then-b-a
-returns-then-b-a c = rw (lt-ltb _ _ c.if-b-a.true)
-
-pub returns : goal.returns
-returns c = rw (le-ltb _ _ c.if-b-a.false)
