@@ -26,8 +26,7 @@ use Rattle.values.specs.Events.{put, point_at, command_of, letter_of}
 use Rattle.values.specs.Known.{amount_of, float_of}
 use Rattle.values.specs.Pen.{is_large, placed_of}
 use Rattle.values.specs.State.{settle_if, called_of, step_of, in_turn}
-use Rattle.reader.specs.declared.counts.Found.{Found}
-use Rattle.reader.specs.declared.counts.Found.TheVariants.{Nowhere, At}
+use Rattle.std.specs.Prelude.{Option, Some, None}
 use Rattle.reader.specs.Counts.{first_large}
 use Rattle.reader.proofs.Adding.{sound_of}
 use Rattle.reader.proofs.Heard.{heard_by, heard_from}
@@ -110,23 +109,23 @@ module _ (es : List Event) where
     large_put (Beyond i) h = absurd h
 
 -- ---- the first number that is too large is at a place or behind it
-pub from_on : ℕ → Found → Type 0
-from_on n Nowhere = Unit {0}
-from_on n (At j) = n ≤ j
+pub from_on : ℕ → Option ℕ → Type 0
+from_on n None = Unit {0}
+from_on n (Some j) = n ≤ j
 
-from_less : (m n : ℕ) (f : Found) → m ≤ n → from_on n f → from_on m f
+from_less : (m n : ℕ) (f : Option ℕ) → m ≤ n → from_on n f → from_on m f
 unfolding from_on
-from_less m n Nowhere h g = tt
-from_less m n (At j) h g = omega (arith, g)
+from_less m n None h g = tt
+from_less m n (Some j) h g = omega (arith, g)
 
-first_from : (n p : ℕ) (f : Found) → n ≤ p → from_on n f → n ≤ first_of p f
+first_from : (n p : ℕ) (f : Option ℕ) → n ≤ p → from_on n f → n ≤ first_of p f
 unfolding from_on
-first_from n p Nowhere h g = h
-first_from n p (At j) h g = omega (arith, g)
+first_from n p None h g = h
+first_from n p (Some j) h g = omega (arith, g)
 
-pub first_most : (p : ℕ) (f : Found) → first_of p f ≤ p
-first_most p Nowhere = omega arith
-first_most p (At j) = omega arith
+pub first_most : (p : ℕ) (f : Option ℕ) → first_of p f ≤ p
+first_most p None = omega arith
+first_most p (Some j) = omega arith
 
 -- ---- the number that ends at i, if one does, and other events
 module _ (m : Mode) (v : Known) (i : ℕ) where

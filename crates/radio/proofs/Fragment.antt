@@ -10,16 +10,11 @@ use lib.Dec.{ltb, leb}
 use lib.ListN.{length, take, drop, get_or, take-append-drop, drop_of_length-le}
 use lib.Seq.{drop-cons, length-take-le}
 use Rattle.form.proofs.Taken.{never}
-use Rattle.refusals.specs.Numbers.{number_of, long_text}
-use Rattle.reader.specs.declared.answer.ReadAnswer.{ReadAnswer}
-use Rattle.reader.specs.Answer.{text_limit, with_place, judged_of}
-use Rattle.reader.specs.Outcome.{Outcome}
-use Rattle.reader.specs.Read.{end_byte}
+use Rattle.reader.specs.Answer.{text_limit}
 use Rattle.reader.specs.Pass.{Passed, pass_of}
 use Rattle.reader.proofs.Passing.{pass_place}
 use Rattle.radio.specs.declared.Radio.{Radio}
-use Rattle.radio.specs.Answer.{closed_answer}
-use Rattle.radio.specs.Radio.{Tuned, passed_of, tuned, is_open, at_limit, past_limit, byte_heard, heard_of, took_by, took_of, judged_by, ended_of, closed_by, closed_with, close_of}
+use Rattle.radio.specs.Radio.{Tuned, passed_of, tuned, is_open, at_limit, past_limit, byte_heard, heard_of}
 
 -- an open state, by its parts
 pub record Open (r : Radio) : Type 0 where
@@ -71,15 +66,6 @@ past w b h = ap (λ t. cond t w (tuned (pass_of (passed_of w) (at_limit b ∷ []
 
 pub at_limit_lem : (w : Tuned) (b : ℕ) → w.radio.length ≤ text_limit → past_limit w b ≡ tuned (pass_of (passed_of w) (at_limit b ∷ [])) (w.radio.length + 1)
 at_limit_lem w b h = ap (λ t. cond t w (tuned (pass_of (passed_of w) (at_limit b ∷ [])) (w.radio.length + 1))) (le-ltb text_limit w.radio.length h)
-
--- by what each call gave
-pub passed_limit : (w : Tuned) (b a : ℕ) (p : Passed) (r : Radio) → w.radio.length ≤ text_limit → a ≡ at_limit b → p ≡ pass_of (passed_of w) (a ∷ [])
-    → r ≡ record { passage = p.passage; length = w.radio.length + 1; closed = false } → record { radio = r; verbs = p.verbs; coords = p.coords } ≡ past_limit w b
-passed_limit w b a p r h ea ep er =
-    ap (λ (x : Radio). record { radio = x; verbs = p.verbs; coords = p.coords }) er
-    ∙ ap (λ (q : Passed). tuned q (w.radio.length + 1)) ep
-    ∙ ap (λ k. tuned (pass_of (passed_of w) (k ∷ [])) (w.radio.length + 1)) ea
-    ∙ sym (at_limit_lem w b h)
 
 pub behind : (bs : List ℕ) (w : Tuned) → text_limit < w.radio.length → heard_of w bs ≡ w
 behind [] w h = refl
@@ -153,34 +139,3 @@ module _ (w : Tuned) (o : Open w.radio) (f : List ℕ) (n : ℕ) (e : n ≡ min 
 
     pub hear_all : length f ≤ n → x ≡ heard_of w f
     hear_all h = on_is ∙ sym (first ∙ ap (λ u. heard_of u (drop n f)) taken ∙ ap (λ l. heard_of on l) (drop_of_length-le f h))
-
--- ---- the calls, by what each function gave
-module _ (w : Tuned) where
-  pub took_open : (f : List ℕ) (q : Tuned) → is_open w.radio ≡ true → q ≡ heard_of w f → took_by true q ≡ took_of w f
-  took_open f q e h = ap (λ x. took_by true x) h ∙ sym (ap (λ t. cond t (took_by true (heard_of w f)) (took_by false w)) e)
-
-  pub took_closed : (f : List ℕ) → is_open w.radio ≡ false → took_by false w ≡ took_of w f
-  took_closed f e = sym (ap (λ t. cond t (took_by true (heard_of w f)) (took_by false w)) e)
-
-  abbrev unheard : Outcome
-  unheard = record { answer = closed_answer; verbs = w.verbs; coords = w.coords }
-
-  pub close_open : (r : Radio) (o : Outcome) → is_open w.radio ≡ true → r ≡ closed_by w.radio → o ≡ ended_of w → closed_with r o ≡ close_of w
-  close_open r o e er eo =
-      ap (λ x. closed_with x o) er ∙ ap (λ x. closed_with (closed_by w.radio) x) eo
-      ∙ sym (ap (λ t. cond t (closed_with (closed_by w.radio) (ended_of w)) (closed_with w.radio unheard)) e)
-
-  pub close_closed : is_open w.radio ≡ false → closed_with w.radio unheard ≡ close_of w
-  close_closed e = sym (ap (λ t. cond t (closed_with (closed_by w.radio) (ended_of w)) (closed_with w.radio unheard)) e)
-
-  abbrev long : Outcome
-  long = record { answer = with_place (number_of long_text) 0; verbs = w.verbs; coords = w.coords }
-
-  pub ended_long : text_limit < w.radio.length → long ≡ ended_of w
-  ended_long h = sym (ap (λ t. cond t long (judged_by (pass_of (passed_of w) (end_byte ∷ [])))) (lt-ltb text_limit w.radio.length h))
-
-  pub ended_judged : (p : Passed) (a : ReadAnswer) → w.radio.length ≤ text_limit → p ≡ pass_of (passed_of w) (end_byte ∷ []) → a ≡ judged_of p.passage (length p.verbs) (length p.coords)
-      → record { answer = a; verbs = p.verbs; coords = p.coords } ≡ ended_of w
-  ended_judged p a h ep ea =
-      ap (λ x. record { answer = x; verbs = p.verbs; coords = p.coords }) ea ∙ ap judged_by ep
-      ∙ sym (ap (λ t. cond t long (judged_by (pass_of (passed_of w) (end_byte ∷ [])))) (le-ltb text_limit w.radio.length h))

@@ -32,7 +32,7 @@ use Rattle.values.specs.declared.pen.Pen.{Pen}
 use Rattle.values.specs.Events.{put, letter_of}
 use Rattle.values.specs.State.{started, called_by, called_of, step_of, events_from}
 use Rattle.values.proofs.Means.{means}
-use Rattle.reader.specs.declared.counts.Found.TheVariants.{At}
+use Rattle.std.specs.Prelude.{Some}
 use Rattle.reader.specs.Read.{end_byte}
 use Rattle.reader.specs.Reads.{large_in}
 use Rattle.reader.proofs.Adding.{sound_of}
@@ -276,7 +276,7 @@ limit_held n s t r h e =
     (λ i y a q z. one_here i y b (with_end r) z ∙ sym (ap sound_of (limit_stops (final start u) b i y q)))
 
 -- ---- the place of a 10
-pub large_held : (t : Text) (p : ℕ) → large_in t ≡ At p → ended_before p (events_in t) ≡ sound_of (events_in t)
+pub large_held : (t : Text) (p : ℕ) → large_in t ≡ Some p → ended_before p (events_in t) ≡ sound_of (events_in t)
 large_held t p f =
     let u = with_end (text t) in
     let n : ℕ = p + length u in

@@ -1,40 +1,15 @@
--- The byte at the text limit, by the tests of `at_limit`; and which class it is of. Assumes nothing.
-use Prim.Native.Nat.{ℕ, ◌≤◌, ◌<◌}
+-- Which class the byte at the text limit is of. Assumes nothing.
+use Prim.Native.Nat.{ℕ}
 use mathlib.Core.Path.{◌≡◌, refl, sym, ap, ◌∙◌}
-use mathlib.Core.Bool.{Bool, true, false, cond, ◌||◌, ◌&&◌}
-use borrow.Author.Tests.{le-leb, lt-leb, ne_eqb}
-use lib.Dec.{leb, eqb}
+use mathlib.Core.Bool.{Bool, true, false, cond, ◌||◌}
+use lib.Dec.{eqb}
 use Rattle.form.specs.declared.classes.Class.{Class}
 use Rattle.form.specs.declared.classes.Class.TheVariants.{Blank, Comma, Sign, Digit, Dot, Command, Other}
 use Rattle.form.specs.declared.classes.Letter.TheVariants.{Move, Line, Along, Close}
 use Rattle.form.specs.Bytes.{is_blank, is_sign, is_digit, is_move, is_line, is_along, is_close, class_of}
 use Rattle.form.proofs.Taken.{never}
-use Rattle.radio.specs.Radio.{at_limit}
 use Rattle.radio.specs.Hears.{goes_on}
 use Rattle.radio.proofs.Since.{is_letter}
-
-pub limit_dot : (b : ℕ) → b ≡ 46 → b ≡ at_limit b
-limit_dot b e = e ∙ sym (ap (λ x. at_limit x) e)
-
-module _ (b : ℕ) (n : b ≡ 46 → ⊥) where
-  by : Bool → ℕ
-  by t = cond (t || false) b 32
-
-  limit_by : (t : Bool) → is_digit b ≡ t → by t ≡ at_limit b
-  unfolding by
-  limit_by t e = sym (ap (λ x. cond (is_digit b || x) b 32) (ne_eqb b 46 n) ∙ ap (λ x. cond (x || false) b 32) e)
-
-  pub limit_below : b < 48 → 32 ≡ at_limit b
-  unfolding by
-  limit_below h = limit_by false (ap (λ t. t && leb b 57) (lt-leb 48 b h))
-
-  pub limit_above : 48 ≤ b → 57 < b → 32 ≡ at_limit b
-  unfolding by
-  limit_above l h = limit_by false (ap (λ t. t && leb b 57) (le-leb 48 b l) ∙ lt-leb b 57 h)
-
-  pub limit_digit : 48 ≤ b → b ≤ 57 → b ≡ at_limit b
-  unfolding by
-  limit_digit l h = limit_by true (ap (λ t. t && leb b 57) (le-leb 48 b l) ∙ le-leb b 57 h)
 
 -- what the tests of a byte come to
 sorted : Bool → Bool → Bool → Bool → Bool → Class → Class

@@ -21,7 +21,7 @@ use Rattle.values.specs.declared.events.Event.{Event}
 use Rattle.values.specs.declared.events.Event.TheVariants.{Nothing, Begin, Line, EndOpen, EndClosed, Beyond}
 use Rattle.values.specs.State.{started}
 use Rattle.reader.specs.declared.answer.ReadAnswer.{ReadAnswer}
-use Rattle.reader.specs.declared.counts.Found.TheVariants.{Nowhere}
+use Rattle.std.specs.Prelude.{None}
 use Rattle.reader.specs.Answer.{text_limit, with_place}
 use Rattle.reader.specs.Counts.{verbs_of, coords_of, first_large, all_places}
 use Rattle.reader.specs.Outcome.{Outcome}
@@ -49,7 +49,7 @@ sound_few (EndOpen i ∷ es) = omega (arith, sound_few es)
 sound_few (EndClosed i ∷ es) = omega (arith, sound_few es)
 sound_few (Beyond i ∷ es) = omega arith
 
-sound_same : (es : List Event) → first_large es ≡ Nowhere → sound_of es ≡ es
+sound_same : (es : List Event) → first_large es ≡ None → sound_of es ≡ es
 sound_same [] n = refl
 sound_same (Nothing ∷ es) n = ap (λ l. Nothing ∷ l) (sound_same es n)
 sound_same (Begin x y i ∷ es) n = ap (λ l. Begin x y i ∷ l) (sound_same es n)

@@ -13,8 +13,8 @@ use Rattle.form.specs.declared.machine.Axis.{Axis}
 use Rattle.form.specs.declared.machine.Axis.TheVariants.{X}
 use Rattle.form.specs.declared.machine.Going.{Going}
 use Rattle.form.specs.declared.machine.Going.TheVariants.{Fresh, Opened, InWhole, AtPoint, InFraction}
-use Rattle.form.specs.declared.machine.Letters.{Letters}
-use Rattle.form.specs.declared.machine.Letters.TheVariants.{NoLetter, FirstMove, AnyLetter, Between}
+use Rattle.form.specs.declared.machine.Stand.{Stand}
+use Rattle.form.specs.declared.machine.Stand.TheVariants.{Nowhere, Amid, Before, Behind, Between}
 use Rattle.form.specs.declared.machine.Mode.{Mode}
 use Rattle.form.specs.declared.machine.Stage.{Stage}
 use Rattle.form.specs.declared.machine.Stage.TheVariants.{Start, Closed, Want, Signed, Whole, Pointed, Fraction, Gap, Lost}
@@ -84,10 +84,11 @@ fresh_letter Line = (refl, refl)
 fresh_letter Along = (refl, refl)
 fresh_letter Close = (refl, refl)
 
-fresh_lettered : (ls : Letters) (a : Axis) (l : Letter) → going_of (lettered_of ls a l) ≡ Fresh
-fresh_lettered NoLetter a l = refl
-fresh_lettered FirstMove a l = (fresh_letter l).1
-fresh_lettered AnyLetter a l = (fresh_letter l).0
+fresh_lettered : (s : Stand) (a : Axis) (l : Letter) → going_of (lettered_of s a l) ≡ Fresh
+fresh_lettered Nowhere a l = refl
+fresh_lettered Amid a l = refl
+fresh_lettered Before a l = (fresh_letter l).1
+fresh_lettered Behind a l = (fresh_letter l).0
 fresh_lettered Between a l = go (begins_point a)
   where
     go : (t : Bool) → going_of (cond t (any_letter l) (at Lost X)) ≡ Fresh
@@ -167,7 +168,7 @@ module _ (a : Axis) (n : ℕ) (v : Known) (i b : ℕ) where
   moves_by g Sign = sign_moves g
   moves_by g Digit = digit_moves g
   moves_by g Dot = dot_moves g
-  moves_by g (Command l) = fresh_moves g (Command l) (fresh_lettered (row_of g).stand.letters (axis_at (ends_before (row_of g).going (Command l)) a) l)
+  moves_by g (Command l) = fresh_moves g (Command l) (fresh_lettered (row_of g).stand (axis_at (ends_before (row_of g).going (Command l)) a) l)
   moves_by g Other = none
 
 -- what is known of it
@@ -207,5 +208,5 @@ behind_figure m Comma e = ap ends_here (columns m.stage).comma
 behind_figure m Sign e = (columns m.stage).sign
 behind_figure m Digit e = digit_ends m.stage m.axis m.places e
 behind_figure m Dot e = (columns m.stage).dot
-behind_figure m (Command l) e = ap ends_here (fresh_lettered (row_of m.stage).stand.letters (axis_at (ends_before (row_of m.stage).going (Command l)) m.axis) l)
+behind_figure m (Command l) e = ap ends_here (fresh_lettered (row_of m.stage).stand (axis_at (ends_before (row_of m.stage).going (Command l)) m.axis) l)
 behind_figure m Other e = refl

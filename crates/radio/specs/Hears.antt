@@ -1,6 +1,6 @@
 -- What a text over the radio comes to at the closing call, and what both lists hold then, as W-212 writes it: by the form of the text, and by which of the
 -- events that it calls for ended. That the calls come to this and to nothing else is proofs/Meets.antt. Assumes nothing.
-use Rattle.std.specs.Prelude.{ℕ, suc, ◌-◌, ◌≤◌, ◌<◌, min, zero, ◌≡◌, Bool, true, false, cond, ◌&&◌, List, [], ◌∷◌, ◌++◌, leb, Float, length, take, get_or}
+use Rattle.std.specs.Prelude.{ℕ, suc, ◌-◌, ◌≤◌, ◌<◌, min, zero, ◌≡◌, Bool, true, false, cond, ◌&&◌, List, [], ◌∷◌, ◌++◌, leb, Float, length, take, get_or, Option, Some, None}
 use Rattle.refusals.specs.Numbers.{number_of, long_text, malformed_text, large_number, reader_room}
 use Rattle.form.specs.declared.classes.Class.{Class}
 use Rattle.form.specs.declared.classes.Class.TheVariants.{Blank, Comma, Sign, Digit, Dot, Command, Other}
@@ -10,8 +10,6 @@ use Rattle.values.specs.declared.events.Event.{Event}
 use Rattle.values.specs.declared.events.Event.TheVariants.{Nothing, Begin, Line, EndOpen, EndClosed, Beyond}
 use Rattle.values.specs.Meaning.{events_of}
 use Rattle.reader.specs.declared.answer.ReadAnswer.{ReadAnswer}
-use Rattle.reader.specs.declared.counts.Found.{Found}
-use Rattle.reader.specs.declared.counts.Found.TheVariants.{Nowhere, At}
 use Rattle.reader.specs.Answer.{text_limit, with_counts, with_place}
 use Rattle.reader.specs.Counts.{verbs_of, coords_of}
 use Rattle.reader.specs.Outcome.{Outcome, written}
@@ -36,9 +34,9 @@ ended_before p [] = []
 ended_before p (e ∷ es) = cond (ended_by p e) (e ∷ ended_before p es) (ended_before p es)
 
 -- the first place of a 9 or 10: that of the 9, or of the first number that is too large where that is before it
-abbrev pub first_of : ℕ → Found → ℕ
-first_of p Nowhere = p
-first_of p (At q) = min p q
+abbrev pub first_of : ℕ → Option ℕ → ℕ
+first_of p None = p
+first_of p (Some q) = min p q
 
 -- the class of the byte before a place, and of that at it; Other where there is none
 abbrev pub before : List ℕ → ℕ → Class
@@ -94,6 +92,6 @@ module _ (s v : List ℕ) (c : List Float) where
     too_long : (t : Text) (r : List ℕ) → text_limit < length s → text t ≡ take (suc text_limit) s ++ r → Hears (holding (with_place (number_of long_text) 0) (held_within t))
     too_long_wrong : {p : ℕ} (t : Text) → text_limit < length s → Wrong s p → p ≤ text_limit → Begun s p t → Hears (holding (with_place (number_of long_text) 0) (held_at s p t))
     out_of_form : {p : ℕ} (t : Text) → length s ≤ text_limit → Wrong s p → Begun s p t → Hears (holding (with_place (number_of malformed_text) p) (held_at s p t))
-    too_large : {p : ℕ} (t : Text) → TextIs s t → large_in t ≡ At p → Hears (holding (with_place (number_of large_number) p) (ended_before p (events_in t)))
-    no_room : (t : Text) → TextIs s t → large_in t ≡ Nowhere → crowded v c t ≡ true → Hears (holding (with_place (number_of reader_room) 0) (events_in t))
-    path : (t : Text) → TextIs s t → large_in t ≡ Nowhere → crowded v c t ≡ false → Hears (holding (with_counts (length (verbs_in t)) (length (coords_in t))) (events_in t))
+    too_large : {p : ℕ} (t : Text) → TextIs s t → large_in t ≡ Some p → Hears (holding (with_place (number_of large_number) p) (ended_before p (events_in t)))
+    no_room : (t : Text) → TextIs s t → large_in t ≡ None → crowded v c t ≡ true → Hears (holding (with_place (number_of reader_room) 0) (events_in t))
+    path : (t : Text) → TextIs s t → large_in t ≡ None → crowded v c t ≡ false → Hears (holding (with_counts (length (verbs_in t)) (length (coords_in t))) (events_in t))

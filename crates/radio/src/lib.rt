@@ -5,12 +5,14 @@ pub mod answer;
 mod hearing;
 
 ghost use Rattle.std.specs.Prelude.{◌≡◌};
+ghost use Rattle.std.specs.Result.{is_ok, result_unwrap_or};
 ghost use Rattle.radio.specs.Answer.{report_of};
-ghost use Rattle.radio.specs.Radio.{started, is_open, closed_by, took_of, close_of};
+ghost use Rattle.radio.specs.Radio.{started, is_open, took_of, close_of};
 
-use crate::answer::Report;
+use crate::answer::RadioError;
 use crate::hearing::{ended, hear};
 use reader::TEXT_LIMIT;
+use reader::answer::PathSize;
 use reader::pass::{Passage, set_out};
 
 // The state between two calls. One that no calls lead to counts as closed.
@@ -23,17 +25,15 @@ pub struct Radio {
     pub closed: bool,
 }
 
-// The state behind a fragment, and whether it was taken: it is not behind a close (refusal 25).
-#[derive(Drop)]
-pub struct Taking {
-    pub radio: Radio,
-    pub taken: bool,
-}
+// Refusal 25: there was a closing call, and no new start.
+#[derive(Clone, Copy)]
+pub struct AfterClose;
 
-#[derive(Drop)]
+// The state behind a closing call, and what that answers.
+#[derive(Clone, Copy)]
 pub struct Closing {
     pub radio: Radio,
-    pub report: Report,
+    pub report: Result<PathSize, RadioError>,
 }
 
 // A new text.
@@ -50,57 +50,37 @@ pub fn start() -> Radio
 fn is_open(r: Radio) -> bool
     ensures { result ≡ is_open r }
 {
-    let p = r.passage;
-    if r.closed {
-        return false;
-    }
-    if TEXT_LIMIT + 1 < r.length {
-        return false;
-    }
-    p.place <= r.length
+    !r.closed && r.length <= TEXT_LIMIT + 1 && r.passage.place <= r.length
 }
 
-// Takes a fragment. What ends in it is put behind what was put before, as far as the lists go.
-pub fn take(r: Radio, fragment: &[u8], verbs: &mut [u8], coords: &mut [f32]) -> Taking
-    ensures { record { radio = result.radio; taken = result.taken; verbs = verbs.new; coords = coords.new } ≡ took_of (record { radio = r; verbs = verbs.old; coords = coords.old }) fragment.now }
+// Takes a fragment. What ends in it is put behind what was put before, as far as the lists go. Refused, the state stays as it is.
+pub fn take(
+    r: Radio,
+    fragment: &[u8],
+    verbs: &mut [u8],
+    coords: &mut [f32],
+) -> Result<Radio, AfterClose>
+    ensures { record { radio = result_unwrap_or result r; taken = is_ok result; verbs = verbs.new; coords = coords.new } ≡ took_of (record { radio = r; verbs = verbs.old; coords = coords.old }) fragment.now }
 {
-    if is_open(r) {
-        let on = hear(r, fragment, verbs, coords);
-        return Taking {
-            radio: on,
-            taken: true,
-        };
+    if !is_open(r) {
+        return Err(AfterClose);
     }
-    Taking {
-        radio: r,
-        taken: false,
-    }
-}
-
-fn closed(r: Radio) -> Radio
-    ensures { result ≡ closed_by r }
-{
-    let p = r.passage;
-    Radio {
-        passage: p,
-        length: r.length,
-        closed: true,
-    }
+    Ok(hear(r, fragment, verbs, coords))
 }
 
 // Ends the text. Both lists have the path, or what ended before a refusal.
 pub fn close(r: Radio, verbs: &mut [u8], coords: &mut [f32]) -> Closing
     ensures { record { radio = result.radio; answer = report_of result.report; verbs = verbs.new; coords = coords.new } ≡ close_of (record { radio = r; verbs = verbs.old; coords = coords.old }) }
 {
-    if is_open(r) {
-        let reading = ended(r, verbs, coords);
+    if !is_open(r) {
         return Closing {
-            radio: closed(r),
-            report: Report::Text(reading),
+            radio: r,
+            report: Err(RadioError::AfterClose),
         };
     }
+    let reading = ended(r, verbs, coords);
     Closing {
-        radio: r,
-        report: Report::AfterClose,
+        radio: Radio { closed: true, ..r },
+        report: reading.map_err(RadioError::from),
     }
 }

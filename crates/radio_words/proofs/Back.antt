@@ -11,8 +11,7 @@ use Rattle.form.specs.declared.machine.Axis.{Axis}
 use Rattle.form.specs.declared.machine.Axis.TheVariants.{X, Y, Alone}
 use Rattle.form.specs.declared.machine.Stage.{Stage}
 use Rattle.form.specs.declared.machine.Stage.TheVariants.{Start, Closed, Want, Signed, Whole, Pointed, Fraction, Gap, Lost}
-use Rattle.reader.specs.declared.counts.Found.{Found}
-use Rattle.reader.specs.declared.counts.Found.TheVariants.{Nowhere, At}
+use Rattle.std.specs.Prelude.{Option, Some, None}
 use Rattle.radio.specs.declared.Radio.{Radio}
 use Rattle.radio.specs.Radio.{closed_by}
 use Rattle.radio_words.specs.Fields.{stage_word, stage_at, axis_word, axis_at, flag_word, flag_at, below, float_at, found_word, found_place, found_at}
@@ -40,9 +39,9 @@ flag_back : (b : Bool) → flag_at (flag_word b) ≡ b
 flag_back true = refl
 flag_back false = refl
 
-found_back_lem : (f : Found) → found_at (found_word f) (found_place f) ≡ f
-found_back_lem Nowhere = refl
-found_back_lem (At i) = refl
+found_back_lem : (f : Option ℕ) → found_at (found_word f) (found_place f) ≡ f
+found_back_lem None = refl
+found_back_lem (Some i) = refl
 
 below_back : (m n : ℕ) → n < m → below m n ≡ n
 below_back m n h = ap (λ t. cond t n 0) (lt-ltb n m h)

@@ -1,12 +1,10 @@
 -- Each call by what its functions gave. Assumes nothing.
-use Prim.Native.Nat.{ℕ, ◌≤◌, ◌<◌}
+use Prim.Native.Nat.{ℕ}
 use mathlib.Core.Path.{◌≡◌, sym, ap, ◌∙◌}
 use mathlib.Core.Bool.{Bool, true, false, cond}
 use mathlib.Core.List.{List}
-use borrow.Author.Tests.{lt-ltb, le-ltb, eq-eqb, ne_eqb}
 use lib.Dec.{eqb}
 use lib.Ieee.{Float}
-use lib.ListN.{length}
 use Rattle.lists.specs.Over.{over}
 use Rattle.refusals.specs.Numbers.{number_of, accepted, after_close}
 use Rattle.reader.specs.declared.answer.ReadAnswer.{ReadAnswer}
@@ -14,7 +12,7 @@ use Rattle.radio.specs.declared.Radio.{Radio}
 use Rattle.radio.specs.Radio.{Took, Closed, started, closed_by, took_of}
 use Rattle.radio.specs.Radio as radio
 use Rattle.radio_words.specs.Words.{words_of, radio_in, begins_with, held_in}
-use Rattle.radio_words.specs.Calls.{word_count, start_of, Taken, taken_by, take_of, Ended, ended_by, close_of}
+use Rattle.radio_words.specs.Calls.{Taken, taken_by, take_of, Ended, ended_by, close_of}
 
 -- the state that words are
 module _ (w : List ℕ) (r : Radio) (ws : List ℕ) (b : Bool) (er : r ≡ radio_in w) (es : ws ≡ words_of r) (eb : b ≡ begins_with ws w) where
@@ -29,19 +27,6 @@ module _ (w : List ℕ) (r : Radio) (ws : List ℕ) (b : Bool) (er : r ≡ radio
 
   pub held_none : (q : Radio) → b ≡ false → q ≡ closed_by r → q ≡ held_in w
   held_none q e eq = eq ∙ sym (held_by ∙ ap (λ x. cond x r (closed_by r)) e)
-
--- a new text
-module _ (w : List ℕ) where
-  pub start_short : length w < word_count → record { number = number_of after_close; state = w } ≡ start_of w
-  unfolding start_of
-  start_short h =
-      sym (ap (λ t. cond t (record { number = number_of after_close; state = w }) (record { number = number_of accepted; state = over (words_of started) w })) (lt-ltb (length w) word_count h))
-
-  pub start_put : (r : Radio) (ws q : List ℕ) → word_count ≤ length w → r ≡ started → ws ≡ words_of r → q ≡ over ws w → record { number = number_of accepted; state = q } ≡ start_of w
-  unfolding start_of
-  start_put r ws q h er es eq =
-      ap (λ x. record { number = number_of accepted; state = x }) (eq ∙ ap (λ x. over x w) (es ∙ ap (λ x. words_of x) er))
-      ∙ sym (ap (λ t. cond t (record { number = number_of after_close; state = w }) (record { number = number_of accepted; state = over (words_of started) w })) (le-ltb (length w) word_count h))
 
 -- a fragment
 module _ (w f v : List ℕ) (c : List Float) (h : Radio) (t : Took) (eh : h ≡ held_in w) (et : t ≡ took_of (record { radio = h; verbs = v; coords = c }) f) where
@@ -72,10 +57,7 @@ module _ (w v : List ℕ) (c : List Float) (h : Radio) (k : Closed) (a : ReadAns
   answered : (b : Bool) → eqb a.number (number_of after_close) ≡ b → close_of w v c ≡ ended a b
   answered b e = closed_is ∙ ap (λ (x : ReadAnswer). ended x (eqb x.number (number_of after_close))) (sym ea) ∙ ap (λ x. ended a x) e
 
-  pub close_on : (ws q : List ℕ) → (a.number ≡ number_of after_close → ⊥) → ws ≡ words_of k.radio → q ≡ over ws w → record { answer = a; state = q; verbs = k.verbs; coords = k.coords } ≡ close_of w v c
+  pub close_on : (ws q : List ℕ) → eqb a.number (number_of after_close) ≡ false → ws ≡ words_of k.radio → q ≡ over ws w → record { answer = a; state = q; verbs = k.verbs; coords = k.coords } ≡ close_of w v c
   close_on ws q n es eq =
       ap (λ x. record { answer = a; state = x; verbs = k.verbs; coords = k.coords }) (eq ∙ ap (λ x. over x w) es)
-      ∙ sym (answered false (ne_eqb a.number (number_of after_close) n))
-
-  pub close_not : a.number ≡ number_of after_close → record { answer = a; state = w; verbs = k.verbs; coords = k.coords } ≡ close_of w v c
-  close_not e = sym (answered true (eq-eqb a.number (number_of after_close) e))
+      ∙ sym (answered false n)

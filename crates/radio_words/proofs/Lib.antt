@@ -1,5 +1,4 @@
 -- `Back` has that what comes back of a state's words is the state. The others are for the functions.
 pub mod Lists
-pub mod Patterns
 pub mod Calls
 pub mod Back

@@ -1,8 +1,9 @@
 -- What each call does to the words of a state and to both lists: what the radio's call does to the state that they are. Assumes nothing.
-use Rattle.std.specs.Prelude.{ℕ, cond, List, ltb, eqb, Float, length}
+use Rattle.std.specs.Prelude.{ℕ, cond, List, ltb, eqb, Float, length, Result, Ok, Err}
 use Rattle.lists.specs.Over.{over}
 use Rattle.refusals.specs.Numbers.{number_of, accepted, after_close}
 use Rattle.reader.specs.declared.answer.ReadAnswer.{ReadAnswer}
+use Rattle.radio.specs.declared.AfterClose.{AfterClose}
 use Rattle.radio.specs.Radio.{Tuned, Took, Closed, started, took_of}
 use Rattle.radio.specs.Radio as radio
 use Rattle.radio_words.specs.Words.{words_of, held_in}
@@ -10,6 +11,11 @@ use Rattle.radio_words.specs.Words.{words_of, held_in}
 -- how many words a state is
 abbrev pub word_count : ℕ
 word_count = 21
+
+-- "25, a call after the closing one", of a start and of a fragment
+abbrev pub call_number : {A : Type 0} → Result A AfterClose → ℕ
+call_number (Ok x) = number_of accepted
+call_number (Err e) = number_of after_close
 
 pub record Started : Type 0 where
   pub number : ℕ

@@ -1,13 +1,11 @@
 -- The fields of a state as words, and back. Assumes nothing.
-use Rattle.std.specs.Prelude.{ℕ, Bool, true, false, cond, ltb, eqb, Float}
+use Rattle.std.specs.Prelude.{ℕ, Bool, true, false, cond, ltb, eqb, Float, Option, Some, None}
 use Rattle.std.specs.Float.{binary32}
 use Rattle.std.specs.Float.Ieee.{of_bits}
 use Rattle.form.specs.declared.machine.Axis.{Axis}
 use Rattle.form.specs.declared.machine.Axis.TheVariants.{X, Y, Alone}
 use Rattle.form.specs.declared.machine.Stage.{Stage}
 use Rattle.form.specs.declared.machine.Stage.TheVariants.{Start, Closed, Want, Signed, Whole, Pointed, Fraction, Gap, Lost}
-use Rattle.reader.specs.declared.counts.Found.{Found}
-use Rattle.reader.specs.declared.counts.Found.TheVariants.{Nowhere, At}
 
 abbrev pub stage_word : Stage → ℕ
 stage_word Start = 0
@@ -55,13 +53,13 @@ below most n = cond (ltb n most) n 0
 abbrev pub float_at : ℕ → Float
 float_at n = of_bits binary32 (below 4294967296 n)
 
-abbrev pub found_word : Found → ℕ
-found_word Nowhere = 0
-found_word (At i) = 1
+abbrev pub found_word : Option ℕ → ℕ
+found_word None = 0
+found_word (Some i) = 1
 
-abbrev pub found_place : Found → ℕ
-found_place Nowhere = 0
-found_place (At i) = i
+abbrev pub found_place : Option ℕ → ℕ
+found_place None = 0
+found_place (Some i) = i
 
-abbrev pub found_at : ℕ → ℕ → Found
-found_at n i = cond (eqb n 1) (At i) Nowhere
+abbrev pub found_at : ℕ → ℕ → Option ℕ
+found_at n i = cond (eqb n 1) (Some i) None

@@ -1,12 +1,12 @@
 // A state as words, and back.
-ghost use Rattle.std.specs.Prelude.{◌≡◌, min, get_or};
+ghost use Rattle.std.specs.Prelude.{◌≡◌, get_or};
 ghost use Rattle.lists.specs.Over.{over};
-ghost use Rattle.radio.specs.Radio.{closed_by};
-ghost use Rattle.radio_words.specs.Words.{words_of, mode_in, pen_in, known_in, state_in, counts_in, radio_in, begins_with, held_in};
+ghost use Rattle.radio_words.specs.Words.{words_of, mode_in, pen_in, known_in, state_in, counts_in, radio_in, held_in};
 
+use crate::WORDS;
 use crate::fields::{
-    axis_at, axis_word, byte_at, flag_at, flag_word, float_at, float_word, found_at, found_place,
-    found_word, short_at, stage_at, stage_word, wide_at,
+    axis_at, axis_word, flag_at, flag_word, float_at, float_word, found_at, found_place,
+    found_word, stage_at, stage_word,
 };
 use form::machine::Mode;
 use radio::Radio;
@@ -16,22 +16,18 @@ use values::known::Known;
 use values::pen::Pen;
 use values::state::State;
 
-pub(crate) fn words_of(r: Radio) -> [usize; 21]
+pub(crate) fn words_of(r: Radio) -> [usize; WORDS]
     ensures { result ≡ words_of r }
 {
     let p = r.passage;
-    let s = p.state;
-    let c = p.counts;
-    let m = s.mode;
-    let v = s.known;
+    let m = p.state.mode;
+    let v = p.state.known;
     let n = v.pen;
-    let g = m.stage;
-    let a = m.axis;
-    let f = c.large;
+    let c = p.counts;
     [
-        stage_word(g),
-        axis_word(a),
-        m.places as usize,
+        stage_word(m.stage),
+        axis_word(m.axis),
+        usize::from(m.places),
         flag_word(n.fresh),
         flag_word(n.relative),
         flag_word(n.upright),
@@ -40,13 +36,13 @@ pub(crate) fn words_of(r: Radio) -> [usize; 21]
         float_word(n.first_x),
         float_word(n.first_y),
         flag_word(v.minus),
-        v.whole as usize,
+        usize::from(v.whole),
         v.fraction as usize,
         v.place,
         c.verbs,
         c.coords,
-        found_word(f),
-        found_place(f),
+        found_word(c.large),
+        found_place(c.large),
         p.place,
         r.length,
         flag_word(r.closed),
@@ -57,7 +53,7 @@ pub(crate) fn words_of(r: Radio) -> [usize; 21]
 fn word(words: &[usize], i: usize) -> usize
     ensures { result ≡ get_or words.now i 0 }
 {
-    if i < words.len() { words[i] } else { 0 }
+    words.get(i).copied().unwrap_or(0)
 }
 
 fn mode_in(words: &[usize]) -> Mode
@@ -66,7 +62,7 @@ fn mode_in(words: &[usize]) -> Mode
     Mode {
         stage: stage_at(word(words, 0)),
         axis: axis_at(word(words, 1)),
-        places: byte_at(word(words, 2)),
+        places: u8::try_from(word(words, 2)).unwrap_or(0),
     }
 }
 
@@ -90,8 +86,8 @@ fn known_in(words: &[usize]) -> Known
     Known {
         pen: pen_in(words),
         minus: flag_at(word(words, 10)),
-        whole: short_at(word(words, 11)),
-        fraction: wide_at(word(words, 12)),
+        whole: u16::try_from(word(words, 11)).unwrap_or(0),
+        fraction: u32::try_from(word(words, 12)).unwrap_or(0),
         place: word(words, 13),
     }
 }
@@ -135,60 +131,21 @@ fn radio_in(words: &[usize]) -> Radio
     }
 }
 
-fn closed(r: Radio) -> Radio
-    ensures { result ≡ closed_by r }
-{
-    let p = r.passage;
-    Radio {
-        passage: p,
-        length: r.length,
-        closed: true,
-    }
-}
-
-// Whether a list begins with words.
-fn begins_with(words: &[usize], list: &[usize]) -> bool
-    ensures { result ≡ begins_with words.now list.now }
-{
-    let mut i: usize = 0;
-    while i < words.len() {
-        if list.len() <= i {
-            return false;
-        }
-        if words[i] != list[i] {
-            return false;
-        }
-        i += 1;
-    }
-    true
-}
-
 // The state that words are, or one that is closed where they are none's.
 pub(crate) fn held(list: &[usize]) -> Radio
     ensures { result ≡ held_in list.now }
 {
     let r = radio_in(list);
-    let words = words_of(r);
-    if begins_with(&words, list) {
+    if list.starts_with(&words_of(r)) {
         return r;
     }
-    closed(r)
-}
-
-fn least(a: usize, b: usize) -> usize
-    ensures { result ≡ min a b }
-{
-    if a < b { a } else { b }
+    Radio { closed: true, ..r }
 }
 
 // Words over the start of a list, as far as it goes.
 pub(crate) fn put(list: &mut [usize], words: &[usize])
     ensures { list.new ≡ over words.now list.old }
 {
-    let n = least(words.len(), list.len());
-    let mut i: usize = 0;
-    while i < n {
-        list[i] = words[i];
-        i += 1;
-    }
+    let n = words.len().min(list.len());
+    list[..n].copy_from_slice(&words[..n]);
 }

@@ -1,28 +1,20 @@
 // Each field of a state as a word, and back. What is no field's word comes back as one whose word is another.
 ghost use Rattle.std.specs.Prelude.{◌≡◌};
 ghost use Rattle.std.specs.Float.{binary32};
-ghost use Rattle.std.specs.Float.Ieee.{of_bits, to_bits};
-ghost use Rattle.radio_words.specs.Fields.{stage_word, stage_at, axis_word, axis_at, flag_word, flag_at, float_at, found_word, found_place, found_at, below};
+ghost use Rattle.std.specs.Float.Ieee.{to_bits};
+ghost use Rattle.radio_words.specs.Fields.{stage_word, stage_at, axis_word, axis_at, flag_word, flag_at, float_at, found_word, found_place, found_at};
 
 use form::machine::{Axis, Stage};
-use reader::counts::Found;
+use std::num::{f32_from_bits_with_nan, f32_to_bits_with_nan};
 
+// In the order in which the stages are declared.
 pub(crate) fn stage_word(g: Stage) -> usize
     ensures { result ≡ stage_word g }
 {
-    match g {
-        Stage::Start => 0,
-        Stage::Closed => 1,
-        Stage::Want => 2,
-        Stage::Signed => 3,
-        Stage::Whole => 4,
-        Stage::Pointed => 5,
-        Stage::Fraction => 6,
-        Stage::Gap => 7,
-        Stage::Lost => 8,
-    }
+    g as usize
 }
 
+#[tactic(auto, unfolding(crate::specs::Fields::stage_at))]
 pub(crate) fn stage_at(word: usize) -> Stage
     ensures { result ≡ stage_at word }
 {
@@ -39,16 +31,14 @@ pub(crate) fn stage_at(word: usize) -> Stage
     }
 }
 
+// In the order in which the axes are declared.
 pub(crate) fn axis_word(a: Axis) -> usize
     ensures { result ≡ axis_word a }
 {
-    match a {
-        Axis::X => 0,
-        Axis::Y => 1,
-        Axis::Alone => 2,
-    }
+    a as usize
 }
 
+#[tactic(auto, unfolding(crate::specs::Fields::axis_at))]
 pub(crate) fn axis_at(word: usize) -> Axis
     ensures { result ≡ axis_at word }
 {
@@ -62,7 +52,7 @@ pub(crate) fn axis_at(word: usize) -> Axis
 pub(crate) fn flag_word(b: bool) -> usize
     ensures { result ≡ flag_word b }
 {
-    if b { 1 } else { 0 }
+    usize::from(b)
 }
 
 pub(crate) fn flag_at(word: usize) -> bool
@@ -71,81 +61,32 @@ pub(crate) fn flag_at(word: usize) -> bool
     word == 1
 }
 
-// to_bits is not defined at a NaN, whose word is one pattern.
-fn bits_of(x: f32) -> u32
-    ensures { result ≡ to_bits binary32 x }
-{
-    if x != x {
-        return 0x7FC0_0000;
-    }
-    f32::to_bits(x)
-}
-
 pub(crate) fn float_word(x: f32) -> usize
     ensures { result ≡ to_bits binary32 x }
 {
-    bits_of(x) as usize
-}
-
-// from_bits is not defined at a NaN's bits: a division makes it.
-fn of_bits(bits: u32) -> f32
-    ensures { result ≡ of_bits binary32 bits }
-{
-    if bits % 0x8000_0000 > 0x7F80_0000 {
-        return 0.0 / 0.0;
-    }
-    f32::from_bits(bits)
+    f32_to_bits_with_nan(x) as usize
 }
 
 pub(crate) fn float_at(word: usize) -> f32
     ensures { result ≡ float_at word }
 {
-    of_bits(wide_at(word))
+    f32_from_bits_with_nan(u32::try_from(word).unwrap_or(0))
 }
 
-pub(crate) fn found_word(f: Found) -> usize
+pub(crate) fn found_word(f: Option<usize>) -> usize
     ensures { result ≡ found_word f }
 {
-    match f {
-        Found::Nowhere => 0,
-        Found::At(_) => 1,
-    }
+    usize::from(f.is_some())
 }
 
-pub(crate) fn found_place(f: Found) -> usize
+pub(crate) fn found_place(f: Option<usize>) -> usize
     ensures { result ≡ found_place f }
 {
-    match f {
-        Found::Nowhere => 0,
-        Found::At(place) => place,
-    }
+    f.unwrap_or(0)
 }
 
-pub(crate) fn found_at(word: usize, place: usize) -> Found
+pub(crate) fn found_at(word: usize, place: usize) -> Option<usize>
     ensures { result ≡ found_at word place }
 {
-    if word == 1 {
-        Found::At(place)
-    } else {
-        Found::Nowhere
-    }
-}
-
-// Words of numbers that have fewer bits.
-pub(crate) fn byte_at(word: usize) -> u8
-    ensures { result ≡ below 256 word }
-{
-    if word < 256 { word as u8 } else { 0 }
-}
-
-pub(crate) fn short_at(word: usize) -> u16
-    ensures { result ≡ below 65536 word }
-{
-    if word < 65536 { word as u16 } else { 0 }
-}
-
-pub(crate) fn wide_at(word: usize) -> u32
-    ensures { result ≡ below 4294967296 word }
-{
-    if word < 4294967296 { word as u32 } else { 0 }
+    if word == 1 { Some(place) } else { None }
 }

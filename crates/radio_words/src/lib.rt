@@ -4,54 +4,76 @@
 mod codec;
 mod fields;
 
-ghost use Rattle.std.specs.Prelude.{◌≡◌};
-ghost use Rattle.radio_words.specs.Calls.{start_of, take_of, close_of};
+ghost use Rattle.std.specs.Prelude.{◌≡◌, ◌==◌};
+ghost use Rattle.refusals.specs.Numbers.{number_of, after_close};
+ghost use Rattle.radio.specs.Answer.{report_of};
+ghost use Rattle.radio_words.specs.Calls.{call_number, start_of, take_of, close_of};
 
 use crate::codec::{held, put, words_of};
-use radio::answer::report_of;
-use reader::answer::ReadAnswer;
+use radio::AfterClose;
+use radio::answer::RadioError;
+use reader::answer::PathSize;
 use refusals::Meaning;
 
 // How many words a state is.
 pub const WORDS: usize = 21;
 
+// The number of a start and of a fragment.
+pub fn call_number(r: Result<(), AfterClose>) -> u32
+    ensures { result ≡ call_number r }
+{
+    match r {
+        Ok(()) => Meaning::Accepted as u32,
+        Err(_) => Meaning::AfterClose as u32,
+    }
+}
+
 // A new text, where there is room for its state.
-pub fn start(state: &mut [usize]) -> u32
-    ensures { record { number = result; state = state.new } ≡ start_of state.old }
+#[tactic(auto, unfolding(crate::specs::Calls::start_of))]
+pub fn start(state: &mut [usize]) -> Result<(), AfterClose>
+    ensures { record { number = call_number result; state = state.new } ≡ start_of state.old }
 {
     if state.len() < WORDS {
-        return Meaning::AfterClose as u32;
+        return Err(AfterClose);
     }
-    let words = words_of(radio::start());
-    put(state, &words);
-    Meaning::Accepted as u32
+    put(state, &words_of(radio::start()));
+    Ok(())
 }
 
 // Takes a fragment; after a close, or where the words are no state's, nothing changes.
-pub fn take(state: &mut [usize], fragment: &[u8], verbs: &mut [u8], coords: &mut [f32]) -> u32
-    ensures { record { number = result; state = state.new; verbs = verbs.new; coords = coords.new } ≡ take_of state.old fragment.now verbs.old coords.old }
+#[tactic(auto, unfolding(crate::specs::Calls::take_of))]
+pub fn take(
+    state: &mut [usize],
+    fragment: &[u8],
+    verbs: &mut [u8],
+    coords: &mut [f32],
+) -> Result<(), AfterClose>
+    ensures { record { number = call_number result; state = state.new; verbs = verbs.new; coords = coords.new } ≡ take_of state.old fragment.now verbs.old coords.old }
 {
-    let t = radio::take(held(state), fragment, verbs, coords);
-    if t.taken {
-        let on = t.radio;
-        let words = words_of(on);
-        put(state, &words);
-        return Meaning::Accepted as u32;
-    }
-    Meaning::AfterClose as u32
+    let on = radio::take(held(state), fragment, verbs, coords)?;
+    put(state, &words_of(on));
+    Ok(())
+}
+
+// Whether there was a closing call before.
+fn is_behind(r: Result<PathSize, RadioError>) -> bool
+    ensures { result ≡ (report_of r).number == number_of after_close }
+{
+    matches!(r, Err(RadioError::AfterClose))
 }
 
 // Ends the text; after a close, or where the words are no state's, nothing changes.
-pub fn close(state: &mut [usize], verbs: &mut [u8], coords: &mut [f32]) -> ReadAnswer
-    ensures { record { answer = result; state = state.new; verbs = verbs.new; coords = coords.new } ≡ close_of state.old verbs.old coords.old }
+#[tactic(auto, unfolding(crate::specs::Calls::close_of))]
+pub fn close(
+    state: &mut [usize],
+    verbs: &mut [u8],
+    coords: &mut [f32],
+) -> Result<PathSize, RadioError>
+    ensures { record { answer = report_of result; state = state.new; verbs = verbs.new; coords = coords.new } ≡ close_of state.old verbs.old coords.old }
 {
     let c = radio::close(held(state), verbs, coords);
-    let report = c.report;
-    let a = report_of(report);
-    if a.number != Meaning::AfterClose as u32 {
-        let closed = c.radio;
-        let words = words_of(closed);
-        put(state, &words);
+    if !is_behind(c.report) {
+        put(state, &words_of(c.radio));
     }
-    a
+    c.report
 }

@@ -11,9 +11,9 @@ use Rattle.lists.proofs.Laws.{put_append, put_none, length_put}
 use Rattle.values.specs.declared.events.Event.{Event}
 use Rattle.values.specs.declared.events.Event.TheVariants.{Nothing, Begin, Line, EndOpen, EndClosed, Beyond}
 use Rattle.values.specs.Events.{put}
-use Rattle.reader.specs.declared.counts.Found.{Found}
-use Rattle.reader.specs.declared.counts.Found.TheVariants.{Nowhere, At}
-use Rattle.reader.specs.Counts.{verb_of, coords_at, large_of, or_else, verbs_of, coords_of, first_large, all_places, capped, verb_count, coord_count}
+use Rattle.std.specs.Prelude.{Option, Some, None}
+use Rattle.std.specs.Option.{option_or}
+use Rattle.reader.specs.Counts.{verb_of, coords_at, large_of, verbs_of, coords_of, first_large, all_places, capped, verb_count, coord_count}
 use Rattle.reader.specs.Pass.{Sheet, event_put}
 
 -- no count is beyond the places that there are
@@ -32,14 +32,14 @@ put_nothing : (h : Sheet) → Counted h → event_put h Nothing ≡ h
 put_nothing h g =
     let p : capped (h.counts.verbs + 0) ≡ h.counts.verbs = omega (arith, g.verbs) in
     let q : capped (h.counts.coords + 0) ≡ h.counts.coords = omega (arith, g.coords) in
-    let r : or_else h.counts.large Nowhere ≡ h.counts.large = or_nowhere h.counts.large in
+    let r : option_or h.counts.large None ≡ h.counts.large = or_nowhere h.counts.large in
     let v = put_none h.counts.verbs h.verbs in
     let c = put_none h.counts.coords h.coords in
     λ j. record { counts = record { verbs = p j; coords = q j; large = r j }; verbs = v j; coords = c j }
   where
-    or_nowhere : (a : Found) → or_else a Nowhere ≡ a
-    or_nowhere Nowhere = refl
-    or_nowhere (At i) = refl
+    or_nowhere : (a : Option ℕ) → option_or a None ≡ a
+    or_nowhere None = refl
+    or_nowhere (Some i) = refl
 
 pub all_put : (h : Sheet) (e : Event) (es : List Event) → Counted h → put_all h (put e es) ≡ put_all (event_put h e) es
 all_put h Nothing es g = ap (λ x. put_all x es) (sym (put_nothing h g))
@@ -49,36 +49,36 @@ all_put h (EndOpen i) es g = refl
 all_put h (EndClosed i) es g = refl
 all_put h (Beyond i) es g = refl
 
-or_assoc : (a b c : Found) → or_else (or_else a b) c ≡ or_else a (or_else b c)
-or_assoc Nowhere b c = refl
-or_assoc (At i) b c = refl
+or_assoc : (a b c : Option ℕ) → option_or (option_or a b) c ≡ option_or a (option_or b c)
+or_assoc None b c = refl
+or_assoc (Some i) b c = refl
 
-pub large_all : (h : Sheet) (es : List Event) → (put_all h es).counts.large ≡ or_else h.counts.large (first_large es)
+pub large_all : (h : Sheet) (es : List Event) → (put_all h es).counts.large ≡ option_or h.counts.large (first_large es)
 large_all h [] = go h.counts.large
   where
-    go : (a : Found) → a ≡ or_else a Nowhere
-    go Nowhere = refl
-    go (At i) = refl
+    go : (a : Option ℕ) → a ≡ option_or a None
+    go None = refl
+    go (Some i) = refl
 large_all h (e ∷ es) = large_all (event_put h e) es ∙ or_assoc h.counts.large (large_of e) (first_large es)
 
 -- all of them, where no number is too large
 abbrev pub sheet_with : Sheet → List Event → Sheet
 sheet_with h es =
     record {
-      counts = record { verbs = h.counts.verbs + length (verbs_of es); coords = h.counts.coords + length (coords_of es); large = or_else h.counts.large (first_large es) };
+      counts = record { verbs = h.counts.verbs + length (verbs_of es); coords = h.counts.coords + length (coords_of es); large = option_or h.counts.large (first_large es) };
       verbs = put_at h.counts.verbs (verbs_of es) h.verbs;
       coords = put_at h.counts.coords (coords_of es) h.coords;
     }
 
-is_found : Found → Bool
-is_found Nowhere = false
-is_found (At i) = true
+is_found : Option ℕ → Bool
+is_found None = false
+is_found (Some i) = true
 
-found : (i : ℕ) → At i ≡ Nowhere → ⊥
+found : (i : ℕ) → Some i ≡ None → ⊥
 unfolding is_found
 found i e = never (sym (ap is_found e))
 
-sound_count : (e : Event) → large_of e ≡ Nowhere → (verb_count e ≡ length (verb_of e)) × (coord_count e ≡ length (coords_at e))
+sound_count : (e : Event) → large_of e ≡ None → (verb_count e ≡ length (verb_of e)) × (coord_count e ≡ length (coords_at e))
 sound_count Nothing g = (refl, refl)
 sound_count (Begin x y i) g = (refl, refl)
 sound_count (Line x y i) g = (refl, refl)
@@ -86,11 +86,11 @@ sound_count (EndOpen i) g = (refl, refl)
 sound_count (EndClosed i) g = (refl, refl)
 sound_count (Beyond i) g = absurd (found i g)
 
-sound_first : (a b : Found) → or_else a b ≡ Nowhere → (a ≡ Nowhere) × (b ≡ Nowhere)
-sound_first Nowhere b e = (refl, e)
-sound_first (At i) b e = absurd (found i e)
+sound_first : (a b : Option ℕ) → option_or a b ≡ None → (a ≡ None) × (b ≡ None)
+sound_first None b e = (refl, e)
+sound_first (Some i) b e = absurd (found i e)
 
-pub sound_all : (h : Sheet) (es : List Event) → first_large es ≡ Nowhere → h.counts.verbs + length (verbs_of es) ≤ all_places → h.counts.coords + length (coords_of es) ≤ all_places
+pub sound_all : (h : Sheet) (es : List Event) → first_large es ≡ None → h.counts.verbs + length (verbs_of es) ≤ all_places → h.counts.coords + length (coords_of es) ≤ all_places
     → put_all h es ≡ sheet_with h es
 sound_all h [] n p q =
     let a : h.counts.verbs ≡ h.counts.verbs + 0 = omega arith in
@@ -143,7 +143,7 @@ far_all h (e ∷ es) p q v c =
     let r = far_all (event_put h e) es (omega arith) (omega arith) (omega (arith, length_put h.counts.verbs (verb_of e) h.verbs)) (omega (arith, length_put h.counts.coords (coords_at e) h.coords)) in
     (r.0 ∙ x, r.1 ∙ y)
 
-held_one : (h x : Sheet) (e : Event) (rest : List Event) → large_of e ≡ Nowhere → h.counts.verbs + length (verb_of e ++ verbs_of rest) ≤ all_places
+held_one : (h x : Sheet) (e : Event) (rest : List Event) → large_of e ≡ None → h.counts.verbs + length (verb_of e ++ verbs_of rest) ≤ all_places
     → h.counts.coords + length (coords_at e ++ coords_of rest) ≤ all_places → length h.verbs ≤ all_places → length h.coords ≤ all_places
     → ((event_put h e).counts.verbs + length (verbs_of rest) ≤ all_places → (event_put h e).counts.coords + length (coords_of rest) ≤ all_places
     → length (event_put h e).verbs ≤ all_places → length (event_put h e).coords ≤ all_places

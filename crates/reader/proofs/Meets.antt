@@ -26,11 +26,12 @@ use Rattle.values.specs.Meaning.{events_of}
 use Rattle.values.specs.State.{started, events_from, events_in}
 use Rattle.values.proofs.Means.{means}
 use Rattle.reader.specs.declared.answer.ReadAnswer.{ReadAnswer}
+use Rattle.reader.specs.declared.answer.ReadError.{ReadError}
+use Rattle.reader.specs.declared.answer.ReadError.TheVariants.{TooLong, OutOfForm, TooLarge, NoRoom}
 use Rattle.reader.specs.declared.counts.Counts.{Counts}
-use Rattle.reader.specs.declared.counts.Found.{Found}
-use Rattle.reader.specs.declared.counts.Found.TheVariants.{Nowhere, At}
+use Rattle.std.specs.Prelude.{Option, Some, None, Err}
 use Rattle.reader.specs.declared.pass.Passage.{Passage}
-use Rattle.reader.specs.Answer.{text_limit, with_counts, with_place, is_path, is_crowded, large_or, room_of, counted_of, judged_of}
+use Rattle.reader.specs.Answer.{text_limit, read_answer_of, with_counts, with_place, is_path, is_crowded, large_or, room_of, counted_of, judged_of}
 use Rattle.reader.specs.Counts.{no_counts, verbs_of, coords_of}
 use Rattle.reader.specs.Outcome.{Outcome, refused, written}
 use Rattle.reader.specs.Pass.{Sheet, is_over, Passed, sheet_of, pass_of}
@@ -43,6 +44,13 @@ use Rattle.reader.proofs.Passing.{pass_append}
 -- the bytes of a text call for what it means
 pub bytes_mean : (s : List ℕ) (t : Text) → text t ≡ s → events_in s ≡ events_of (length (text t)) t
 bytes_mean s t e = ap (λ l. events_in l) (sym e) ∙ means (length (text t)) t
+
+-- a refusal is no path
+pub not_path : (e : ReadError) → is_path (read_answer_of (Err e)) ≡ false
+not_path TooLong = refl
+not_path (OutOfForm i) = refl
+not_path (TooLarge i) = refl
+not_path NoRoom = refl
 
 -- a text with its end
 abbrev pub with_end : List ℕ → List ℕ
@@ -107,7 +115,7 @@ module _ (v : List ℕ) (c : List Float) (s : List ℕ) (t : Text) (is : TextIs 
       let f = subst (λ es. (length (verbs_of es) ≤ 2 * length (with_end s)) × (length (coords_of es) ≤ 4 * length (with_end s))) heard_is (few_heard 0 started (with_end s)) in
       omega (arith, f.0, f.1, length-append s (end_byte ∷ []), is.short)
 
-  pub sound_so : large_in t ≡ Nowhere → sheet_of (through_of v c s) ≡ sheet_with (blank v c) events
+  pub sound_so : large_in t ≡ None → sheet_of (through_of v c s) ≡ sheet_with (blank v c) events
   sound_so f = sheet_is ∙ sound_all (blank v c) events f (omega (arith, few_events)) (omega (arith, few_events))
 
 module _ (s v : List ℕ) (c : List Float) where
@@ -142,13 +150,13 @@ module _ (s v : List ℕ) (c : List Float) where
         (over_is [] [] s ∙ ap not (form_taken s (t, is.spelt)))
         ∙ ap (λ f. read_by v c (large_or f (room_of passage.counts (length v) (length c))) w) (large_so [] [] s t is)
 
-    too_large_so : (p : ℕ) → large_in t ≡ At p → outcome ≡ refused v c (with_place (number_of large_number) p)
+    too_large_so : (p : ℕ) → large_in t ≡ Some p → outcome ≡ refused v c (with_place (number_of large_number) p)
     too_large_so p f = formed_so ∙ ap (λ x. read_by v c (large_or x (room_of passage.counts (length v) (length c))) (through_of v c s)) f
 
     abbrev roomed : Bool → ReadAnswer
     roomed b = cond b (with_place (number_of reader_room) 0) (with_counts (length (verbs_in t)) (length (coords_in t)))
 
-    sound_room : large_in t ≡ Nowhere → outcome ≡ read_by v c (roomed (crowded v c t)) (through_of v c s)
+    sound_room : large_in t ≡ None → outcome ≡ read_by v c (roomed (crowded v c t)) (through_of v c s)
     sound_room f =
         let w = through_of v c s in
         let k = ap (λ (h : Sheet). h.counts) (sound_so [] [] s t is f) in
@@ -159,10 +167,10 @@ module _ (s v : List ℕ) (c : List Float) where
         ∙ ap (λ (x : Counts). read_by v c (by x.verbs x.coords) w) k
         ∙ ap (λ x. read_by v c (by x (0 + length (coords_in t))) w) n ∙ ap (λ x. read_by v c (by (length (verbs_in t)) x) w) m
 
-    room_so : large_in t ≡ Nowhere → crowded v c t ≡ true → outcome ≡ refused v c (with_place (number_of reader_room) 0)
+    room_so : large_in t ≡ None → crowded v c t ≡ true → outcome ≡ refused v c (with_place (number_of reader_room) 0)
     room_so f q = sound_room f ∙ ap (λ b. read_by v c (roomed b) (through_of v c s)) q
 
-    path_so : large_in t ≡ Nowhere → crowded v c t ≡ false → outcome ≡ written v c (with_counts (length (verbs_in t)) (length (coords_in t))) (verbs_in t) (coords_in t)
+    path_so : large_in t ≡ None → crowded v c t ≡ false → outcome ≡ written v c (with_counts (length (verbs_in t)) (length (coords_in t))) (verbs_in t) (coords_in t)
     path_so f q =
         let a = with_counts (length (verbs_in t)) (length (coords_in t)) in
         let h = sound_so v c s t is f in
@@ -171,10 +179,10 @@ module _ (s v : List ℕ) (c : List Float) where
         let e : record { answer = a; verbs = (through_of v c s).verbs; coords = (through_of v c s).coords } ≡ written v c a (verbs_in t) (coords_in t) = λ j. record { answer = a; verbs = x j; coords = y j } in
         sound_room f ∙ ap (λ b. read_by v c (roomed b) (through_of v c s)) q ∙ e
 
-    formed : (f : Found) → large_in t ≡ f → (b : Bool) → crowded v c t ≡ b → Reads s v c outcome
-    formed (At p) f b q = subst (λ o. Reads s v c o) (sym (too_large_so p f)) (too_large t is f)
-    formed Nowhere f true q = subst (λ o. Reads s v c o) (sym (room_so f q)) (no_room t is f q)
-    formed Nowhere f false q = subst (λ o. Reads s v c o) (sym (path_so f q)) (path t is f q)
+    formed : (f : Option ℕ) → large_in t ≡ f → (b : Bool) → crowded v c t ≡ b → Reads s v c outcome
+    formed (Some p) f b q = subst (λ o. Reads s v c o) (sym (too_large_so p f)) (too_large t is f)
+    formed None f true q = subst (λ o. Reads s v c o) (sym (room_so f q)) (no_room t is f q)
+    formed None f false q = subst (λ o. Reads s v c o) (sym (path_so f q)) (path t is f q)
 
   short : length s ≤ text_limit → (b : Bool) → may_end (final start s) ≡ b → Reads s v c outcome
   short h true e =
@@ -237,5 +245,5 @@ module _ (s v : List ℕ) (c : List Float) where
   accepted o (path t is f q) e = (t, is, refl)
 
   -- what has the form, within the limits, is not refused
-  pub not_refused : (o : Outcome) → Reads s v c o → (t : Text) → TextIs s t → large_in t ≡ Nowhere → crowded v c t ≡ false → o ≡ drawn t
+  pub not_refused : (o : Outcome) → Reads s v c o → (t : Text) → TextIs s t → large_in t ≡ None → crowded v c t ≡ false → o ≡ drawn t
   not_refused o r t is f q = same_outcome o (drawn t) r (path t is f q)

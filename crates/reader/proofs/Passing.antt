@@ -6,18 +6,16 @@ use mathlib.Core.List.{List, [], ◌∷◌, ◌++◌}
 use native.Mathlib.Numerals.{add-one}
 use native.Mathlib.Omega.{arith}
 use lib.Ieee.{Float}
-use lib.ListN.{length, drop, get_or, drop_of_length-le}
+use lib.ListN.{length, drop, get_or}
 use lib.Seq.{drop-cons}
 use Rattle.form.specs.Machine.{is_lost}
 use Rattle.lists.proofs.Laws.{length_put}
 use Rattle.values.specs.declared.state.Called.{Called}
-use Rattle.values.specs.declared.state.Took.{Took}
-use Rattle.values.specs.State.{called_of, step_of, took_of}
+use Rattle.values.specs.State.{called_of, step_of}
 use Rattle.reader.specs.declared.pass.Passage.{Passage}
 use Rattle.reader.specs.Answer.{text_limit}
 use Rattle.reader.specs.Counts.{verb_of, coords_at, all_places}
 use Rattle.reader.specs.Pass.{Sheet, event_put, called_put, set_out, is_over, Passed, sheet_of, stepped, pass_of}
-use Rattle.reader.specs.Read.{end_byte, through_of}
 
 -- the lists keep their lengths
 called_verbs : (h : Sheet) (k : Called) (t : Bool) → length (called_put h k t).verbs ≡ length h.verbs
@@ -58,15 +56,6 @@ module _ (w : Passed) (b : ℕ) where
       go true = omega arith
       go false = omega arith
 
-  -- by what each call of a step gave
-  pub stepped_by : (t : Took) (l : Bool) (h : Sheet) (i : ℕ) → t ≡ took_of w.passage.state b place (place + 1) → l ≡ is_lost t.state.mode → h ≡ called_put (sheet_of w) t.called l
-      → i ≡ cond l place (place + 1) → record { passage = record { state = t.state; counts = h.counts; place = i }; verbs = h.verbs; coords = h.coords } ≡ stepped w b
-  unfolding stepped
-  stepped_by t l h i et el eh ei =
-      let made : Took → Sheet → ℕ → Passed = λ u g k. record { passage = record { state = u.state; counts = g.counts; place = k }; verbs = g.verbs; coords = g.coords } in
-      let by : Took → Bool → Passed = λ u m. made u (called_put (sheet_of w) u.called m) (cond m place (place + 1)) in
-      ap (λ k. made t h k) ei ∙ ap (λ g. made t g (cond l place (place + 1))) eh ∙ ap (λ m. by t m) el ∙ ap (λ (u : Took). by u (is_lost u.state.mode)) et
-
 -- behind a byte that is out of form nothing is passed
 pub pass_over : (w : Passed) (bs : List ℕ) → is_over w.passage ≡ true → pass_of w bs ≡ w
 pass_over w [] e = refl
@@ -98,12 +87,6 @@ end_room v c s p u ep eu h =
     let k = ap (λ (x : Passed). x.passage.place) eu in
     omega (arith, i, k, pass_place (record { passage = p; verbs = v; coords = c }) s)
 
--- a text and its end, by what each call gave
-pub through_by : (v : List ℕ) (c : List Float) (s : List ℕ) (p : Passage) (u q : Passed) → p ≡ set_out → u ≡ pass_of (record { passage = p; verbs = v; coords = c }) s → q ≡ pass_of u (end_byte ∷ [])
-    → q ≡ through_of v c s
-unfolding through_of
-through_by v c s p u q ep eu eq = eq ∙ ap (λ x. pass_of x (end_byte ∷ [])) (eu ∙ ap (λ (x : Passage). pass_of (record { passage = x; verbs = v; coords = c }) s) ep)
-
 -- How far the loop has come: what was to come is still to come.
 pub record Passes (text v0 : List ℕ) (c0 : List Float) (p0 : Passage) (v : List ℕ) (c : List Float) (p : Passage) (i : ℕ) : Type 0 where
   pub within : i ≤ length text
@@ -113,9 +96,6 @@ pub record Passes (text v0 : List ℕ) (c0 : List Float) (p0 : Passage) (v : Lis
   pub same_coords : length c ≡ length c0
 
 module _ (text v0 : List ℕ) (c0 : List Float) (p0 : Passage) where
-  pub passes_none : Passes text v0 c0 p0 v0 c0 p0 0
-  passes_none = record { within = omega arith; ahead = refl; places = omega arith; same_verbs = refl; same_coords = refl }
-
   module _ (v : List ℕ) (c : List Float) (p : Passage) (i : ℕ) (g : Passes text v0 c0 p0 v c p i) where
     abbrev w : Passed
     w = record { passage = p; verbs = v; coords = c }
@@ -135,6 +115,3 @@ module _ (text v0 : List ℕ) (c0 : List Float) (p0 : Passage) where
 
     pub passes_over : is_over p ≡ true → w ≡ pass_of (record { passage = p0; verbs = v0; coords = c0 }) text
     passes_over e = sym (pass_over w (drop i text) e) ∙ g.ahead
-
-    pub passes_all : length text ≤ i → w ≡ pass_of (record { passage = p0; verbs = v0; coords = c0 }) text
-    passes_all h = ap (λ l. pass_of w l) (sym (drop_of_length-le text h)) ∙ g.ahead

@@ -1,13 +1,12 @@
 -- The reader's answer. Assumes nothing.
-use Rattle.std.specs.Prelude.{ℕ, Bool, cond, ◌||◌, ltb, eqb}
+use Rattle.std.specs.Prelude.{ℕ, Bool, cond, ◌||◌, ltb, eqb, Option, Some, None, Result, Ok, Err}
 use Rattle.refusals.specs.Numbers.{number_of, accepted, long_text, malformed_text, large_number, reader_room}
 use Rattle.path.specs.Limits.{verb_limit}
-use Rattle.reader.specs.declared.answer.Reading.{Reading}
-use Rattle.reader.specs.declared.answer.Reading.TheVariants.{Path, TooLong, OutOfForm, TooLarge, NoRoom}
+use Rattle.reader.specs.declared.answer.PathSize.{PathSize}
+use Rattle.reader.specs.declared.answer.ReadError.{ReadError}
+use Rattle.reader.specs.declared.answer.ReadError.TheVariants.{TooLong, OutOfForm, TooLarge, NoRoom}
 use Rattle.reader.specs.declared.answer.ReadAnswer.{ReadAnswer}
 use Rattle.reader.specs.declared.counts.Counts.{Counts}
-use Rattle.reader.specs.declared.counts.Found.{Found}
-use Rattle.reader.specs.declared.counts.Found.TheVariants.{Nowhere, At}
 use Rattle.reader.specs.declared.pass.Passage.{Passage}
 use Rattle.reader.specs.Pass.{is_over}
 
@@ -23,12 +22,12 @@ abbrev pub with_place : ℕ → ℕ → ReadAnswer
 with_place number place = record { number = number; place = place; verbs = 0; coords = 0 }
 
 -- what each case of `read`'s answer stands for: the number, the place and both counts
-abbrev pub read_answer_of : Reading → ReadAnswer
-read_answer_of (Path verbs coords) = with_counts verbs coords
-read_answer_of TooLong = with_place (number_of long_text) 0
-read_answer_of (OutOfForm i) = with_place (number_of malformed_text) i
-read_answer_of (TooLarge i) = with_place (number_of large_number) i
-read_answer_of NoRoom = with_place (number_of reader_room) 0
+abbrev pub read_answer_of : Result PathSize ReadError → ReadAnswer
+read_answer_of (Ok size) = with_counts size.verbs size.coords
+read_answer_of (Err TooLong) = with_place (number_of long_text) 0
+read_answer_of (Err (OutOfForm i)) = with_place (number_of malformed_text) i
+read_answer_of (Err (TooLarge i)) = with_place (number_of large_number) i
+read_answer_of (Err NoRoom) = with_place (number_of reader_room) 0
 
 -- "0: accepted"
 abbrev pub is_path : ReadAnswer → Bool
@@ -42,9 +41,9 @@ abbrev pub room_of : Counts → ℕ → ℕ → ReadAnswer
 room_of c verb_room coord_room = cond (is_crowded c.verbs c.coords verb_room coord_room) (with_place (number_of reader_room) 0) (with_counts c.verbs c.coords)
 
 -- refusals 10 and 11, in their order
-abbrev pub large_or : Found → ReadAnswer → ReadAnswer
-large_or (At i) a = with_place (number_of large_number) i
-large_or Nowhere a = a
+abbrev pub large_or : Option ℕ → ReadAnswer → ReadAnswer
+large_or (Some i) a = with_place (number_of large_number) i
+large_or None a = a
 
 abbrev pub counted_of : Counts → ℕ → ℕ → ReadAnswer
 counted_of c verb_room coord_room = large_or c.large (room_of c verb_room coord_room)

@@ -1,11 +1,10 @@
 -- What events come to: verbs, coordinates, and the first number that is too large. Assumes nothing.
-use Rattle.std.specs.Prelude.{ℕ, ◌+◌, min, List, [], ◌∷◌, ◌++◌, Float}
+use Rattle.std.specs.Prelude.{ℕ, ◌+◌, min, List, [], ◌∷◌, ◌++◌, Float, Option, Some, None}
+use Rattle.std.specs.Option.{option_or}
 use Rattle.path.specs.Verbs.{begin, line, end_open, end_closed}
 use Rattle.values.specs.declared.events.Event.{Event}
 use Rattle.values.specs.declared.events.Event.TheVariants.{Nothing, Begin, Line, EndOpen, EndClosed, Beyond}
 use Rattle.reader.specs.declared.counts.Counts.{Counts}
-use Rattle.reader.specs.declared.counts.Found.{Found}
-use Rattle.reader.specs.declared.counts.Found.TheVariants.{Nowhere, At}
 
 -- the verb of an event
 abbrev pub verb_of : Event → List ℕ
@@ -26,17 +25,13 @@ coords_at (EndClosed i) = []
 coords_at (Beyond i) = []
 
 -- its place, where it is a number that is too large
-abbrev pub large_of : Event → Found
-large_of Nothing = Nowhere
-large_of (Begin x y i) = Nowhere
-large_of (Line x y i) = Nowhere
-large_of (EndOpen i) = Nowhere
-large_of (EndClosed i) = Nowhere
-large_of (Beyond i) = At i
-
-abbrev pub or_else : Found → Found → Found
-or_else Nowhere b = b
-or_else (At i) b = At i
+abbrev pub large_of : Event → Option ℕ
+large_of Nothing = None
+large_of (Begin x y i) = None
+large_of (Line x y i) = None
+large_of (EndOpen i) = None
+large_of (EndClosed i) = None
+large_of (Beyond i) = Some i
 
 -- the same of all events of a text: its path, and "the first such" number
 abbrev pub verbs_of : List Event → List ℕ
@@ -47,9 +42,9 @@ abbrev pub coords_of : List Event → List Float
 coords_of [] = []
 coords_of (e ∷ es) = coords_at e ++ coords_of es
 
-abbrev pub first_large : List Event → Found
-first_large [] = Nowhere
-first_large (e ∷ es) = or_else (large_of e) (first_large es)
+abbrev pub first_large : List Event → Option ℕ
+first_large [] = None
+first_large (e ∷ es) = option_or (large_of e) (first_large es)
 
 -- Where the next verb and coordinates are put: behind so many. A number that is too large takes all the places there are, and nothing is put behind it.
 abbrev pub all_places : ℕ
@@ -75,7 +70,7 @@ coord_count (EndClosed i) = 0
 coord_count (Beyond i) = all_places
 
 abbrev pub no_counts : Counts
-no_counts = record { verbs = 0; coords = 0; large = Nowhere }
+no_counts = record { verbs = 0; coords = 0; large = None }
 
 abbrev pub added_of : Counts → Event → Counts
-added_of c e = record { verbs = capped (c.verbs + verb_count e); coords = capped (c.coords + coord_count e); large = or_else c.large (large_of e) }
+added_of c e = record { verbs = capped (c.verbs + verb_count e); coords = capped (c.coords + coord_count e); large = option_or c.large (large_of e) }

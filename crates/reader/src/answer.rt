@@ -1,17 +1,22 @@
 // What the reader answers.
-ghost use Rattle.std.specs.Prelude.{◌≡◌};
-ghost use Rattle.reader.specs.Answer.{read_answer_of, with_counts, with_place, is_path, room_of, counted_of, judged_of};
+ghost use Rattle.std.specs.Prelude.{◌≡◌, Ok, Err};
+ghost use Rattle.reader.specs.Answer.{read_answer_of, with_counts, room_of, counted_of, judged_of};
 
-use crate::counts::{Counts, Found};
+use crate::counts::Counts;
 use crate::pass::{Passage, is_over};
 use path::verbs::VERB_LIMIT;
 use refusals::Meaning;
 
-// A path, or the first refusal by number.
+// A path: how many verbs, and how many coordinates.
 #[derive(Clone, Copy)]
-pub enum Reading {
-    // How many verbs, and how many coordinates.
-    Path(usize, usize),
+pub struct PathSize {
+    pub verbs: usize,
+    pub coords: usize,
+}
+
+// The first refusal by number.
+#[derive(Clone, Copy)]
+pub enum ReadError {
     // Refusal 8: too many bytes.
     TooLong,
     // Refusal 9, at the first byte with which the text so far begins no text of the form, or at the length.
@@ -23,7 +28,7 @@ pub enum Reading {
 }
 
 // The same in the terms of document 01's table.
-#[derive(Drop)]
+#[derive(Clone, Copy)]
 pub struct ReadAnswer {
     pub number: u32,
     pub place: usize,
@@ -32,81 +37,77 @@ pub struct ReadAnswer {
 }
 
 // Refusal 11, by what a text of the form comes to and the places that are lent.
-fn room(c: Counts, verb_room: usize, coord_room: usize) -> Reading
+fn room(c: Counts, verb_room: usize, coord_room: usize) -> Result<PathSize, ReadError>
     ensures { read_answer_of result ≡ room_of c verb_room coord_room }
 {
-    if verb_room < c.verbs {
-        return Reading::NoRoom;
+    if verb_room < c.verbs || coord_room < c.coords || VERB_LIMIT < c.verbs {
+        return Err(ReadError::NoRoom);
     }
-    if coord_room < c.coords {
-        return Reading::NoRoom;
-    }
-    if VERB_LIMIT < c.verbs {
-        return Reading::NoRoom;
-    }
-    Reading::Path(c.verbs, c.coords)
+    Ok(PathSize {
+        verbs: c.verbs,
+        coords: c.coords,
+    })
 }
 
 // Refusals 10 and 11.
-fn counted(c: Counts, verb_room: usize, coord_room: usize) -> Reading
+fn counted(c: Counts, verb_room: usize, coord_room: usize) -> Result<PathSize, ReadError>
     ensures { read_answer_of result ≡ counted_of c verb_room coord_room }
 {
-    let large = c.large;
-    match large {
-        Found::At(place) => Reading::TooLarge(place),
-        Found::Nowhere => room(c, verb_room, coord_room),
+    match c.large {
+        Some(place) => Err(ReadError::TooLarge(place)),
+        None => room(c, verb_room, coord_room),
     }
 }
 
 // Refusals 9 to 11, behind the end of a text.
-pub fn judged(p: Passage, verb_room: usize, coord_room: usize) -> Reading
+pub fn judged(p: Passage, verb_room: usize, coord_room: usize) -> Result<PathSize, ReadError>
     ensures { read_answer_of result ≡ judged_of p verb_room coord_room }
 {
     if is_over(p) {
-        return Reading::OutOfForm(p.place);
+        return Err(ReadError::OutOfForm(p.place));
     }
-    let c = p.counts;
-    counted(c, verb_room, coord_room)
+    counted(p.counts, verb_room, coord_room)
 }
 
-pub(crate) fn is_path(r: Reading) -> bool
-    ensures { result ≡ is_path (read_answer_of r) }
-{
-    let a = read_answer_of(r);
-    a.number == 0
-}
+impl From<PathSize> for ReadAnswer {
+    ghost from_gives = { λ s a. a ≡ with_counts s.verbs s.coords };
 
-// The number, the place and both counts that an answer stands for.
-pub fn read_answer_of(r: Reading) -> ReadAnswer
-    ensures { result ≡ read_answer_of r }
-{
-    match r {
-        Reading::Path(verbs, coords) => with_counts(verbs, coords),
-        Reading::TooLong => with_place(Meaning::LongText as u32, 0),
-        Reading::OutOfForm(place) => with_place(Meaning::MalformedText as u32, place),
-        Reading::TooLarge(place) => with_place(Meaning::LargeNumber as u32, place),
-        Reading::NoRoom => with_place(Meaning::ReaderRoom as u32, 0),
+    fn from(s: PathSize) -> ReadAnswer {
+        ReadAnswer {
+            number: Meaning::Accepted as u32,
+            place: 0,
+            verbs: s.verbs,
+            coords: s.coords,
+        }
     }
 }
 
-fn with_counts(verbs: usize, coords: usize) -> ReadAnswer
-    ensures { result ≡ with_counts verbs coords }
-{
-    ReadAnswer {
-        number: Meaning::Accepted as u32,
-        place: 0,
-        verbs: verbs,
-        coords: coords,
+impl From<ReadError> for ReadAnswer {
+    ghost from_gives = { λ e a. a ≡ read_answer_of (Err e) };
+
+    fn from(e: ReadError) -> ReadAnswer {
+        let (number, place) = match e {
+            ReadError::TooLong => (Meaning::LongText as u32, 0),
+            ReadError::OutOfForm(place) => (Meaning::MalformedText as u32, place),
+            ReadError::TooLarge(place) => (Meaning::LargeNumber as u32, place),
+            ReadError::NoRoom => (Meaning::ReaderRoom as u32, 0),
+        };
+        ReadAnswer {
+            number,
+            place,
+            verbs: 0,
+            coords: 0,
+        }
     }
 }
 
-fn with_place(number: u32, place: usize) -> ReadAnswer
-    ensures { result ≡ with_place number place }
-{
-    ReadAnswer {
-        number: number,
-        place: place,
-        verbs: 0,
-        coords: 0,
+impl From<Result<PathSize, ReadError>> for ReadAnswer {
+    ghost from_gives = { λ r a. a ≡ read_answer_of r };
+
+    fn from(r: Result<PathSize, ReadError>) -> ReadAnswer {
+        match r {
+            Ok(size) => ReadAnswer::from(size),
+            Err(e) => ReadAnswer::from(e),
+        }
     }
 }

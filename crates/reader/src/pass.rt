@@ -1,6 +1,6 @@
 // The pass over a text, whole or by parts: whether it has the form, what it comes to, and its verbs and coordinates, each event's put behind
 // those of the one before, as far as the lists go.
-ghost use Rattle.std.specs.Prelude.{◌≡◌, cond, [], ◌∷◌, ◌≤◌, ◌<◌, ◌+◌, min, length};
+ghost use Rattle.std.specs.Prelude.{◌≡◌, [], ◌∷◌, ◌≤◌, ◌<◌, ◌+◌, length};
 ghost use Rattle.lists.specs.Over.{over, put_at};
 ghost use Rattle.reader.specs.Counts.{verb_of, coords_at, all_places};
 ghost use Rattle.reader.specs.Pass.{event_put, called_put, set_out, is_over, stepped, pass_of};
@@ -11,36 +11,35 @@ use path::verbs::{BEGIN, END_CLOSED, END_OPEN, LINE};
 use values::events::Event;
 use values::state::{Called, State, start, take};
 
+#[tactic(auto, unfolding(lists::specs::Over::over))]
 fn put_verb(verbs: &mut [u8], verb: u8)
     ensures { verbs.new ≡ over (verb ∷ []) verbs.old }
 {
-    if verbs.len() < 1 {
-        return;
+    if let [first, ..] = verbs {
+        *first = verb;
     }
-    verbs[0] = verb;
 }
 
+#[tactic(auto, unfolding(lists::specs::Over::over))]
 fn put_point(coords: &mut [f32], x: f32, y: f32)
     ensures { coords.new ≡ over (x ∷ y ∷ []) coords.old }
 {
-    let n = coords.len();
-    if n < 1 {
-        return;
+    if let [first, ..] = coords {
+        *first = x;
     }
-    coords[0] = x;
-    if n < 2 {
-        return;
+    if let [_, second, ..] = coords {
+        *second = y;
     }
-    coords[1] = y;
 }
 
 // Puts an event's verb and its coordinates at the front of two lists.
+#[tactic(auto, unfolding(lists::specs::Over::over))]
 fn put_event(verbs: &mut [u8], coords: &mut [f32], e: Event)
     ensures verbs_after { verbs.new ≡ over (verb_of e) verbs.old }
     ensures coords_after { coords.new ≡ over (coords_at e) coords.old }
 {
     match e {
-        Event::Nothing => {}
+        Event::Nothing | Event::Beyond(_) => {}
         Event::Begin(x, y, _) => {
             put_verb(verbs, BEGIN);
             put_point(coords, x, y);
@@ -49,20 +48,9 @@ fn put_event(verbs: &mut [u8], coords: &mut [f32], e: Event)
             put_verb(verbs, LINE);
             put_point(coords, x, y);
         }
-        Event::EndOpen(_) => {
-            put_verb(verbs, END_OPEN);
-        }
-        Event::EndClosed(_) => {
-            put_verb(verbs, END_CLOSED);
-        }
-        Event::Beyond(_) => {}
+        Event::EndOpen(_) => put_verb(verbs, END_OPEN),
+        Event::EndClosed(_) => put_verb(verbs, END_CLOSED),
     }
-}
-
-fn least(a: usize, b: usize) -> usize
-    ensures { result ≡ min a b }
-{
-    if a < b { a } else { b }
 }
 
 // The same from a place of each list on.
@@ -70,8 +58,8 @@ fn put_at(verbs: &mut [u8], coords: &mut [f32], n: usize, m: usize, e: Event)
     ensures verbs_after { verbs.new ≡ put_at n (verb_of e) verbs.old }
     ensures coords_after { coords.new ≡ put_at m (coords_at e) coords.old }
 {
-    let i = least(n, verbs.len());
-    let j = least(m, coords.len());
+    let i = n.min(verbs.len());
+    let j = m.min(coords.len());
     put_event(&mut verbs[i..], &mut coords[j..], e);
 }
 
@@ -87,13 +75,11 @@ fn put_next(verbs: &mut [u8], coords: &mut [f32], c: Counts, e: Event) -> Counts
 fn put_called(verbs: &mut [u8], coords: &mut [f32], c: Counts, called: Called, lost: bool) -> Counts
     ensures { record { counts = result; verbs = verbs.new; coords = coords.new } ≡ called_put (record { counts = c; verbs = verbs.old; coords = coords.old }) called lost }
 {
-    let number = called.number;
-    let letter = called.letter;
-    let d = put_next(verbs, coords, c, number);
+    let d = put_next(verbs, coords, c, called.number);
     if lost {
         return d;
     }
-    put_next(verbs, coords, d, letter)
+    put_next(verbs, coords, d, called.letter)
 }
 
 // How far a text has come.
@@ -120,35 +106,22 @@ pub fn set_out() -> Passage
 pub fn is_over(p: Passage) -> bool
     ensures { result ≡ is_over p }
 {
-    let s = p.state;
-    let m = s.mode;
-    is_lost(m)
-}
-
-fn later(lost: bool, place: usize, behind: usize) -> usize
-    ensures { result ≡ cond lost place behind }
-{
-    if lost { place } else { behind }
+    is_lost(p.state.mode)
 }
 
 // One byte more.
+#[tactic(auto, unfolding(crate::specs::Pass::stepped))]
 fn step(p: Passage, b: u8, verbs: &mut [u8], coords: &mut [f32]) -> Passage
     requires { p.place < all_places }
     ensures { record { passage = result; verbs = verbs.new; coords = coords.new } ≡ stepped (record { passage = p; verbs = verbs.old; coords = coords.old }) b }
 {
-    let s = p.state;
-    let c = p.counts;
-    let place = p.place;
-    let behind = place + 1;
-    let t = take(s, b, place, behind);
-    let after = t.state;
-    let called = t.called;
-    let m = after.mode;
-    let lost = is_lost(m);
+    let behind = p.place + 1;
+    let t = take(p.state, b, p.place, behind);
+    let lost = is_lost(t.state.mode);
     Passage {
-        state: after,
-        counts: put_called(verbs, coords, c, called, lost),
-        place: later(lost, place, behind),
+        state: t.state,
+        counts: put_called(verbs, coords, p.counts, t.called, lost),
+        place: if lost { p.place } else { behind },
     }
 }
 
@@ -158,10 +131,11 @@ pub fn pass(p: Passage, text: &[u8], verbs: &mut [u8], coords: &mut [f32]) -> Pa
     ensures { record { passage = result; verbs = verbs.new; coords = coords.new } ≡ pass_of (record { passage = p; verbs = verbs.old; coords = coords.old }) text.now }
 {
     let mut q = p;
-    let mut i: usize = 0;
-    while i < text.len() && !is_over(q) {
-        q = step(q, text[i], verbs, coords);
-        i += 1;
+    for b in text {
+        if is_over(q) {
+            break;
+        }
+        q = step(q, *b, verbs, coords);
     }
     q
 }

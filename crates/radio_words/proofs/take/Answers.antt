@@ -1,18 +1,16 @@
 -- `radio_words::take` meets its contract. Assumes nothing.
+use mathlib.Core.Path.{refl}
+use mathlib.Core.Bool.{false}
+use Rattle.std.proofs.lemmas.Result.{err_from_is_err_and}
+use Rattle.radio.specs.Radio.{Took}
 use Rattle.radio_words.proofs.Calls.{take_on, take_not}
 use Rattle.radio_words.proofs.take.Goals as goal
 
-pub returns-then-t : goal.returns-then-t
-returns-then-t c =
-    let held = c.held in
-    let take = c.take-t in
-    let test = c.if-t in
-    let words_of = c.words_of-words in
-    let put = c.put in
-    take_on c.args.state.now c.args.fragment.now c.args.verbs.now c.args.coords.now _ _ held.ensures take.ensures _ _ test.true words_of.ensures put.ensures
+pub returns-in_err-on : goal.returns-in_err-on
+returns-in_err-on c =
+    let p = err_from_is_err_and c.from_residual.result c.from_residual.ensures.1 in
+    let t : Took = record { radio = c.held.result; taken = false; verbs = c.take.new.verbs; coords = c.take.new.coords } in
+    rw p.1 (take_not c.args.state.now c.args.fragment.now c.args.verbs.now c.args.coords.now c.held.result t c.held.ensures c.in_err-on.ensures refl)
 
 pub returns : goal.returns
-returns c =
-    let held = c.held in
-    let take = c.take-t in
-    take_not c.args.state.now c.args.fragment.now c.args.verbs.now c.args.coords.now _ _ held.ensures take.ensures c.if-t.false
+returns c = take_on c.args.state.now c.args.fragment.now c.args.verbs.now c.args.coords.now _ _ c.held.ensures c.in_ok-on.ensures _ _ refl c.words_of.ensures c.put.ensures

@@ -1,9 +1,0 @@
--- `reader::answer::judged` meets its contract. Assumes nothing.
-use mathlib.Core.Path.{sym, ◌∙◌}
-use Rattle.reader.proofs.answer.judged.Goals as goal
-
-pub returns-then-is_over : goal.returns-then-is_over
-returns-then-is_over c = rw (sym c.is_over.ensures ∙ c.if-is_over.true)
-
-pub returns : goal.returns
-returns c = rw (sym c.is_over.ensures ∙ c.if-is_over.false) c.counted.ensures
