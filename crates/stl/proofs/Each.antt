@@ -7,11 +7,13 @@ use mathlib.Core.Logic.{◌⊎◌, inl, inr}
 use native.Mathlib.Nat.{eq-or-lt_of_le, mul-le-mul_left}
 use native.Mathlib.Omega.{arith}
 use borrow.Rule.Slice.PartMut.{mid_of, put_mid, same_len_mid}
-use lib.Dec.{T}
+use borrow.Author.Tests.{ltb-true, ltb-false}
+use lib.Dec.{T, ltb}
 use lib.Ieee.Bits.{is_true}
 use lib.ListN.{length, take, drop, take-append-drop}
-use Rattle.std.specs.Prelude.{Option, Some, MatchOption, find}
-use Rattle.std.specs.List.{range_with_len}
+use Rattle.std.specs.Prelude.{Option, Some, None, MatchOption, position}
+use Rattle.std.specs.List.{position_or_len, range_with_len}
+use Rattle.std.proofs.lemmas.List.FromFn.{length-range_with_len}
 use Rattle.lists.specs.Over.{over, flat}
 use Rattle.lists.proofs.Laws.{over_none}
 use Rattle.lists.proofs.Parts.{turn}
@@ -19,22 +21,29 @@ use Rattle.stl.specs.Each.{each, first_bad}
 
 -- ---- the first that is not fine
 module _ (fine : ℕ → Bool) where
-  -- std's search of the numbers below n for one that is not fine
-  where_from : (i n : ℕ) (r : Option ℕ) → r ≡ find (λ k. not (fine k)) (range_with_len i n) → MatchOption r (i + n ≡ first_bad fine i n) (λ k. (k ≡ first_bad fine i n) × (k < i + n))
+  -- std's search of the numbers i, i + 1, .., n in all, for one that is not fine
+  bad_from : (i n : ℕ) → first_bad fine i n ≡ i + position_or_len (λ k. not (fine k)) (range_with_len i n)
   unfolding first_bad
-  where_from i zero r e = rw e (omega arith)
-  where_from i (suc n) r e = go (fine i) e (where_from (i + 1) n r)
+  bad_from i zero = omega arith
+  bad_from i (suc n) = go (fine i) (bad_from (i + 1) n)
     where
-      Ends : ℕ → ℕ → Type 0
-      Ends b m = MatchOption r (m ≡ b) (λ k. (k ≡ b) × (k < m))
+      later : ℕ
+      later = position_or_len (λ k. not (fine k)) (range_with_len (i + 1) n)
 
-      go : (b : Bool) → r ≡ cond (not b) (Some i) (find (λ k. not (fine k)) (range_with_len (i + 1) n)) → (r ≡ find (λ k. not (fine k)) (range_with_len (i + 1) n) → Ends (first_bad fine (i + 1) n) (i + 1 + n))
-          → Ends (cond b (first_bad fine (i + 1) n) i) (i + suc n)
-      go true e later = let m : i + 1 + n ≡ i + suc n = omega arith in rw m at (later e)
-      go false e later = rw e (refl, omega arith)
+      go : (b : Bool) → first_bad fine (i + 1) n ≡ i + 1 + later → cond b (first_bad fine (i + 1) n) i ≡ i + cond (not (not b)) (1 + later) 0
+      go true e = omega (arith, e)
+      go false e = omega arith
 
-  pub first_where : (n : ℕ) (r : Option ℕ) → r ≡ find (λ k. not (fine k)) (range_with_len 0 n) → MatchOption r (n ≡ first_bad fine 0 n) (λ k. (k ≡ first_bad fine 0 n) × (k < n))
-  first_where n r e = let z : 0 + n ≡ n = omega arith in rw z at (where_from 0 n r e)
+  pub first_where : (n : ℕ) (r : Option ℕ) → r ≡ position (λ k. not (fine k)) (range_with_len 0 n) → MatchOption r (n ≤ first_bad fine 0 n) (λ k. (k ≡ first_bad fine 0 n) × (k < n))
+  first_where n r e = go (ltb (first_bad fine 0 n) n) (ltb-true (first_bad fine 0 n) n) (ltb-false (first_bad fine 0 n) n) (rw (← same, length-range_with_len) at e)
+    where
+      same : first_bad fine 0 n ≡ position_or_len (λ k. not (fine k)) (range_with_len 0 n)
+      same = omega (arith, bad_from 0 n)
+
+      go : (b : Bool) → (b ≡ true → first_bad fine 0 n < n) → (b ≡ false → n ≤ first_bad fine 0 n) → r ≡ cond b (Some (first_bad fine 0 n)) None
+          → MatchOption r (n ≤ first_bad fine 0 n) (λ k. (k ≡ first_bad fine 0 n) × (k < n))
+      go true t f e = rw e (refl, t refl)
+      go false t f e = rw e (f refl)
 
   -- none is passed over: where the answer is the end, all are fine
   fine_from : (i n : ℕ) → i + n ≤ first_bad fine i n → (k : ℕ) → i ≤ k → k < i + n → T (fine k)

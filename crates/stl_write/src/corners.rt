@@ -1,5 +1,5 @@
 // The mesh's triangles by their corners, and which may be written.
-ghost use Rattle.std.specs.Prelude.{not, ◌≡◌, ◌/◌, ◌<◌, T, find, length};
+ghost use Rattle.std.specs.Prelude.{not, ◌≡◌, ◌/◌, ◌<◌, T, length, position};
 ghost use Rattle.std.specs.List.{range_with_len};
 ghost use Rattle.stl.specs.Corner.{finite_corner};
 ghost use Rattle.stl.specs.Write.{corner_of, fine_vertex, fine_triangle, facet_of};
@@ -44,9 +44,9 @@ fn is_fine_triangle(vertices: &[f32], triangles: &[Index], k: usize) -> bool
 
 // The first triangle that is not fine.
 pub(crate) fn first_refused(vertices: &[f32], triangles: &[Index]) -> Option<usize>
-    ensures { result ≡ find (λ k. not (fine_triangle vertices.now triangles.now k)) (range_with_len 0 (length triangles.now / 3)) }
+    ensures { result ≡ position (λ k. not (fine_triangle vertices.now triangles.now k)) (range_with_len 0 (length triangles.now / 3)) }
 {
-    (0..triangles.len() / 3).find(|k| !is_fine_triangle(vertices, triangles, *k))
+    (0..triangles.len() / 3).position(|k| !is_fine_triangle(vertices, triangles, k))
 }
 
 // A triangle that is fine.

@@ -1,5 +1,5 @@
 -- `stl_read::stl_read` meets its contract. Assumes nothing.
-use mathlib.Core.Path.{sym, ◌∙◌}
+use mathlib.Core.Path.{refl, sym, ◌∙◌}
 use native.Mathlib.Nat.{le_of_eq}
 use native.Mathlib.Omega.{arith}
 use Rattle.std.specs.Prelude.{None, Some}
@@ -22,14 +22,14 @@ returns-in-Some c =
 pub returns-then-corners-floats : goal.returns-then-corners-floats
 returns-then-corners-floats c =
     let h = first_where (fine_facet c.args.bytes.now) c.word-n.result None (sym c.in_default.is ∙ c.first_damaged.ensures) in
-    read_full _ _ c.if-bytes-lt84.false _ c.word-n.ensures c.if-bytes-n.false _ h (omega arith) c.if-corners-floats.true
+    read_full _ _ c.if-bytes-lt84.false _ c.word-n.ensures c.if-bytes-n.false _ refl h c.if-corners-floats.true
 
 pub put_all-requires : goal.put_all-requires
 put_all-requires c =
     let h = first_where (fine_facet c.args.bytes.now) c.word-n.result None (sym c.in_default.is ∙ c.first_damaged.ensures) in
-    record { room = c.if-corners-floats.false; bytes = le_of_eq (sym c.if-bytes-n.false); fine = all_fine _ _ _ h (omega arith) }
+    record { room = c.if-corners-floats.false; bytes = le_of_eq (sym c.if-bytes-n.false); fine = all_fine _ _ _ refl h }
 
 pub returns : goal.returns
 returns c =
     let h = first_where (fine_facet c.args.bytes.now) c.word-n.result None (sym c.in_default.is ∙ c.first_damaged.ensures) in
-    read_done _ _ c.if-bytes-lt84.false _ c.word-n.ensures c.if-bytes-n.false _ h (omega arith) c.if-corners-floats.false _ c.put_all.ensures
+    read_done _ _ c.if-bytes-lt84.false _ c.word-n.ensures c.if-bytes-n.false _ refl h c.if-corners-floats.false _ c.put_all.ensures

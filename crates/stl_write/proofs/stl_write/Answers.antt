@@ -1,6 +1,6 @@
 -- `stl_write::stl_write` meets its contract. Assumes nothing.
 use Prim.Native.Nat.{ℕ, ◌/◌}
-use mathlib.Core.Path.{sym, ◌∙◌}
+use mathlib.Core.Path.{refl, sym, ◌∙◌}
 use native.Mathlib.Nat.{le_refl, le_of_eq}
 use native.Mathlib.Omega.{arith}
 use lib.ListN.{length}
@@ -22,7 +22,7 @@ pub put_file-requires : goal.put_file-requires
 put_file-requires c =
     let r = long_enough _ _ (sym c.is_too_short.ensures ∙ c.if-is_too_short.false) in
     let h = first_where (fine_triangle c.args.vertices.now c.args.triangles.now) (length c.args.triangles.now / 3) None (sym c.in_default.is ∙ c.first_refused.ensures) in
-    record { counted = r.0; room = r.1; fine = all_fine _ _ _ h (omega arith) }
+    record { counted = r.0; room = r.1; fine = all_fine _ _ _ refl h }
 
 pub overflow_mul-result : goal.overflow_mul-result
 overflow_mul-result c =
@@ -37,4 +37,4 @@ overflow_add-result c =
 pub returns : goal.returns
 returns c =
     let h = first_where (fine_triangle c.args.vertices.now c.args.triangles.now) (length c.args.triangles.now / 3) None (sym c.in_default.is ∙ c.first_refused.ensures) in
-    write_done _ _ _ (sym c.is_too_short.ensures ∙ c.if-is_too_short.false) _ h (omega arith) _ c.put_file.ensures
+    write_done _ _ _ (sym c.is_too_short.ensures ∙ c.if-is_too_short.false) _ refl h _ c.put_file.ensures
