@@ -1,22 +1,21 @@
 -- Laws of a byte list: its pairs of digits are looked at, and then put from the front. Assumes nothing.
 use Prim.Native.Nat.{ℕ, zero, suc, ◌+◌, ◌-◌, ◌*◌, ◌/◌, ◌%◌, ◌≤◌, ◌<◌}
 use mathlib.Core.Path.{◌≡◌, refl, sym, ap, ◌∙◌}
-use mathlib.Core.Bool.{Bool, true, false, ◌&&◌, ◌||◌, false≢true}
+use mathlib.Core.Bool.{Bool, true, false, ◌&&◌, false≢true}
 use mathlib.Core.List.{List, [], ◌∷◌, ◌++◌}
 use native.Mathlib.Omega.{arith}
 use native.Mathlib.Numerals.{add-one}
 use lib.Dec.{eqb, leb, ltb}
 use lib.ListN.{length, take, drop, get_or, set, length-set}
 use lib.Seq.{drop-cons, take-suc, take_all, length-take-le}
-use borrow.Author.Tests.{lt-ltb, le-ltb, le-leb, lt-leb, ltb-true, leb-true, eqb-true, ne_eqb}
-use Rattle.lines.specs.Bytes.{pairs_of, is_dash, are_pairs, is_held, bytes_in, pick_bytes, bytes_of}
+use borrow.Author.Tests.{lt-ltb, le-ltb, le-leb, lt-leb, ltb-true, eqb-true, ne_eqb}
+use Rattle.lines.specs.Bytes.{pairs_of, is_dash, are_pairs, is_held, bytes_in, bytes_of}
 use Rattle.lines.specs.Digits.{digit_of, are_digits}
 use lib.Pointwise.{pointwise}
-use Rattle.std.proofs.Common.{Some, None, Option, ok_or, IfOk, MatchOption, is_some, nat_eq, nat_lt}
+use Rattle.std.proofs.Common.{Some, None, Option, MatchOption, is_some, nat_eq, nat_lt}
 use Rattle.std.specs.List.{list_all}
 use Rattle.lines.specs.Digits.{spelt}
 use Rattle.lines.specs.Numbers.{spelt_in}
-use Rattle.lines.specs.Words.{lost}
 use Rattle.lists.specs.Over.{over}
 use Rattle.lists.proofs.Laws.{over_next}
 
@@ -156,16 +155,6 @@ module _ (room : ℕ) (w : List ℕ) where
   pub by_pairs : (xs ys : List ℕ) → is_held room w ≡ true → ys ≡ over (pairs_of w) xs → (Some (length w / 2) ≡ bytes_of room w) × (ys ≡ over (bytes_in room w) xs)
   unfolding bytes_of bytes_in
   by_pairs xs ys e q = (rw (e, pairs_length w), rw e q)
-
-  -- as many as the lent list holds, at most
-  pub room_enough : IfOk (ok_or (bytes_of room w) lost) (λ n. n ≤ room)
-  unfolding bytes_of is_held
-  room_enough = go (is_dash w || are_pairs w) (leb (length (pairs_of w)) room) (leb-true (length (pairs_of w)) room)
-    where
-      go : (a t : Bool) → (t ≡ true → length (pairs_of w) ≤ room) → IfOk (ok_or (pick_bytes (a && t) (Some (length (pairs_of w))) None) lost) (λ n. n ≤ room)
-      go true true h = h refl
-      go true false h = tt
-      go false t h = tt
 
 -- where there is no word
 pub of_none : (room : ℕ) → bytes_of room [] ≡ None

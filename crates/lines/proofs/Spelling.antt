@@ -28,35 +28,12 @@ digit_high b h k =
     let n : 57 < b = omega arith in
     rw (le-leb 48 b m, lt-leb b 57 n, le-leb 65 b h, le-leb b 70 k)
 
-pub digit_below : (b : ℕ) → b < 48 → 16 ≡ digit_of b
-unfolding digit_of
-digit_below b h =
-    let m : b < 65 = omega arith in
-    rw (lt-leb 48 b h, lt-leb 65 b m)
-
-pub digit_between : (b : ℕ) → 57 < b → b < 65 → 16 ≡ digit_of b
-unfolding digit_of
-digit_between b h k =
-    let m : 48 ≤ b = omega arith in
-    rw (le-leb 48 b m, lt-leb b 57 h, lt-leb 65 b k)
-
-pub digit_above : (b : ℕ) → 70 < b → 16 ≡ digit_of b
-unfolding digit_of
-digit_above b h =
-    let m : 48 ≤ b = omega arith in
-    let n : 57 < b = omega arith in
-    let o : 65 ≤ b = omega arith in
-    rw (le-leb 48 b m, lt-leb b 57 n, le-leb 65 b o, lt-leb b 70 h)
-
 -- ---- a word
 
 -- i digits of a word are read and spell n, and with the rest of the word that is what the whole word spells
 pub record Spelling (base : ℕ) (w : List ℕ) (n i : ℕ) : Type 0 where
   pub short : n < 16 ^ i
   pub whole : spelt_in base w ≡ pick_number (are_digits base (drop i w)) (Some (spelt base n (drop i w))) None
-
-pub spelling_starts : (base : ℕ) (w : List ℕ) → Spelling base w 0 0
-spelling_starts base w = record { short = omega arith; whole = refl }
 
 module _ {base : ℕ} {w : List ℕ} {n i d : ℕ} (s : Spelling base w n i) where
   longer : base ≤ 16 → d < base → n * base + d < 16 ^ (i + 1)

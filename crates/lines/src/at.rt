@@ -1,4 +1,7 @@
-// What is printed, put at a place of a list. Each answers the place behind it.
+// What is printed, put at a place of a list. Each answers the place behind it. The list and the place stay two parameters: each contract of a struct
+// that holds a `&mut` would have to say that it still holds the same.
+#![tactic(auto, using(crate::proofs::Behind::puts_byte, crate::proofs::Behind::puts_copy, crate::proofs::Behind::puts_part))]
+
 ghost use Rattle.std.specs.Prelude.{[], ◌∷◌, ◌+◌, ◌≤◌, ◌<◌, length};
 ghost use Rattle.lines.specs.Digits.{decimal_of, hex_of};
 ghost use Rattle.lines.specs.Floats.{float_hex};

@@ -1,5 +1,5 @@
 // A byte list: one word of uppercase hex digits, two to a byte, or `-` where it is empty.
-ghost use Rattle.std.specs.Prelude.{true, ◌≡◌, ◌/◌, ◌≤◌, length};
+ghost use Rattle.std.specs.Prelude.{true, ◌≡◌, ◌/◌, ◌≤◌, length, IfSome};
 ghost use Rattle.lines.specs.Bytes.{pairs_of, are_pairs, bytes_in, bytes_of};
 ghost use Rattle.lines.specs.Digits.{are_digits};
 ghost use Rattle.lists.specs.Over.{over};
@@ -11,6 +11,7 @@ use crate::numbers::spelt;
 // nothing.
 pub fn parse(word: &[u8], list: &mut [u8]) -> Option<usize>
     ensures value { result ≡ bytes_of (length list.old) word.now }
+    ensures count_in_bounds { IfSome result (λ n. n ≤ length list.old) }
     ensures list_after { list.new ≡ over (bytes_in (length list.old) word.now) list.old }
 {
     if word == b"-".as_slice() {

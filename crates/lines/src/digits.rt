@@ -5,6 +5,7 @@ ghost use Rattle.lines.specs.Digits.{digit_of, are_digits, glyph_of};
 const GLYPHS: &[u8; 16] = b"0123456789ABCDEF";
 
 // What a byte is worth as a digit of a base.
+#[tactic(auto, unfolding(crate::specs::Digits::digit_of))]
 pub(crate) fn digit(b: u8, base: u64) -> Option<u64>
     requires { base ≤ 16 }
     ensures { MatchOption result (base ≤ digit_of b) (λ d. (d ≡ digit_of b) × (d < base)) }
@@ -19,6 +20,7 @@ pub(crate) fn digit(b: u8, base: u64) -> Option<u64>
 }
 
 // The byte of a digit.
+#[tactic(auto, using(crate::proofs::Placing::glyph_at))]
 pub(crate) fn glyph(d: u64) -> u8
     requires { d < 16 }
     ensures { result ≡ glyph_of d }

@@ -7,6 +7,7 @@ ghost use Rattle.lines.specs.Floats.{float_by, float_of};
 use crate::numbers::spelt;
 
 // The float that a word is.
+#[tactic(auto, using(crate::proofs::Spelling::eight_fit), unfolding(crate::specs::Floats::float_of))]
 pub fn parse(word: &[u8]) -> Option<f32>
     ensures { result ≡ float_of word.now }
 {
@@ -30,6 +31,7 @@ fn of_bits(bits: u32) -> Option<f32>
 }
 
 // The bits that a text has for a float: to_bits is not defined at a NaN.
+#[tactic(auto, using(crate::proofs::Patterns::nan_word))]
 pub(crate) fn bits_of(x: f32) -> u32
     ensures { result ≡ to_bits binary32 x }
 {

@@ -5,6 +5,7 @@ ghost use Rattle.lines.specs.Numbers.{spelt_in, number_of};
 use crate::digits::digit;
 
 // The number that a word is.
+#[tactic(auto, unfolding(crate::specs::Numbers::number_of))]
 pub fn parse(word: &[u8]) -> Option<u64>
     ensures { result ≡ number_of word.now }
 {

@@ -8,6 +8,7 @@ use crate::digits::glyph;
 use crate::floats::bits_of;
 
 // Puts n in decimal, and answers how many digits that took.
+#[tactic(auto, using(crate::proofs::Placing::digits_length), unfolding(crate::specs::Digits::decimal_of))]
 pub(crate) fn put_decimal(out: &mut [u8], n: u64) -> usize
     requires { 20 ≤ length out.old }
     ensures value { result ≡ length (decimal_of n) }
@@ -36,6 +37,7 @@ pub(crate) fn put_float(out: &mut [u8], x: f32)
 }
 
 // How many decimal digits n has.
+#[tactic(auto, using(crate::proofs::Placing::places_log))]
 fn places(n: u64) -> usize
     ensures value { result ≡ places_up_to 19 n }
     ensures upper_bound { result ≤ 20 }
@@ -43,7 +45,7 @@ fn places(n: u64) -> usize
     n.checked_ilog10().unwrap_or(0) as usize + 1
 }
 
-// Puts the last k digits of n, from the last to the first.
+// Puts the last k digits of n, from the last to the first. By hand: std's contracts say nothing of the bytes that `write!` puts into a `&mut [u8]`.
 fn put_digits(out: &mut [u8], n: u64, base: u64, k: usize)
     requires { (0 < base) × (base ≤ 16) × (k ≤ length out.old) }
     ensures { out.new ≡ over (digits_of base k n) out.old }

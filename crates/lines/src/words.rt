@@ -55,6 +55,7 @@ impl<'a> Words<'a> {
     }
 
     // The next word, which is a number.
+    #[tactic(auto, using(crate::proofs::Spaces::none_left), unfolding(crate::specs::Numbers::number_of, crate::specs::Numbers::number_at))]
     pub fn number(&mut self) -> Result<u64, BadLine>
         ensures value { result ≡ number_at self.old.line.now self.old.next }
         ensures asked { Asked self.old self.new }
@@ -63,6 +64,7 @@ impl<'a> Words<'a> {
     }
 
     // The next word, which is a number no larger than `most`.
+    #[tactic(auto, unfolding(crate::specs::Numbers::number_up_to))]
     pub fn number_up_to(&mut self, most: u64) -> Result<u64, BadLine>
         ensures value { result ≡ number_up_to most (number_at self.old.line.now self.old.next) }
         ensures value_le_most { IfOk result (λ n. n ≤ most) }
@@ -73,6 +75,7 @@ impl<'a> Words<'a> {
     }
 
     // The next word, which is a float.
+    #[tactic(auto, using(crate::proofs::Spaces::none_left), unfolding(crate::specs::Floats::float_of, crate::specs::Floats::float_at))]
     pub fn float(&mut self) -> Result<f32, BadLine>
         ensures value { result ≡ float_at self.old.line.now self.old.next }
         ensures asked { Asked self.old self.new }
@@ -82,6 +85,7 @@ impl<'a> Words<'a> {
 
     // The next word, which is a byte list, put over the start of the lent list: how many bytes it has. One that is out of form,
     // or too long for the list, changes nothing there.
+    #[tactic(auto, using(crate::proofs::Spaces::none_left, crate::proofs::Pairs::of_none, crate::proofs::Pairs::put_none), unfolding(crate::specs::Bytes::bytes_at))]
     pub fn bytes(&mut self, list: &mut [u8]) -> Result<usize, BadLine>
         ensures value { result ≡ bytes_at (length list.old) self.old.line.now self.old.next }
         ensures count_in_bounds { IfOk result (λ n. n ≤ length list.old) }

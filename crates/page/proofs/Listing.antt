@@ -1,4 +1,4 @@
--- Lines that are put one behind the other, each of 18 bytes at most: what the loops over vertices and over triangles keep. Assumes nothing.
+-- Lines that are put one behind the other, each of 18 bytes at most: what the loop over them keeps. Assumes nothing.
 use Prim.Native.Nat.{ℕ, ◌+◌, ◌*◌, ◌≤◌}
 use mathlib.Core.Path.{◌≡◌, sym}
 use mathlib.Core.List.{List}
@@ -26,5 +26,5 @@ module _ {line_of : ℕ → List ℕ} {n k : ℕ} {before : List ℕ} where
     unfolding lines_to
     listing_goes h p s = record { within = omega arith; short = omega (arith, l.short); puts = rw add-one (puts_then l.puts p) }
 
-    pub listing_ends : n ≤ i → Puts (lines_to line_of n) k before next now × (next ≤ k + 18 * n)
-    listing_ends h = let e : i ≡ n = omega (arith, l.within) in (rw e at l.puts, omega (arith, l.short))
+    pub listing_ends : n ≤ i → Puts (lines_to line_of n) k before next now
+    listing_ends h = let e : i ≡ n = omega (arith, l.within) in rw e at l.puts

@@ -54,9 +54,7 @@ pub fn put_page(text: &[u8], out: &mut Page) -> usize
     if a.number != 0 {
         return put_refused(out, a.number, a.place);
     }
-    let n = a.verbs;
-    let m = a.coords;
-    put_stroked(&verbs[..n], &coords[..m], out)
+    put_stroked(&verbs[..a.verbs], &coords[..a.coords], out)
 }
 
 // The page of a path.
@@ -79,7 +77,11 @@ fn put_stroked(verbs: &[u8], coords: &[f32], out: &mut Page) -> usize
     if a.number != 0 {
         return put_refused(out, a.number, a.place);
     }
-    put_mesh(out, &vertices, a.vertices, &triangles, a.triangles)
+    put_mesh(
+        out,
+        &vertices[..5 * a.vertices],
+        &triangles[..3 * a.triangles],
+    )
 }
 
 // The least merge range, 1/128, is 0.0078125.

@@ -1,64 +1,67 @@
 // The page of a mesh: `v N` and a line to each vertex, `t N` and a line to each triangle.
-ghost use Rattle.std.specs.Prelude.{◌+◌, ◌*◌, ◌≤◌, length};
+ghost use Rattle.std.specs.Prelude.{ℕ, List, [], ◌∷◌, ◌++◌, ◌+◌, ◌*◌, ◌/◌, ◌≤◌, ◌<◌, length};
+ghost use Rattle.lines.specs.Digits.{decimal_of};
 ghost use Rattle.lines.specs.Placed.{Puts};
-ghost use Rattle.page.specs.Page.{AreShort, vertex_line, triangle_line, lines_to, mesh_page};
+ghost use Rattle.page.specs.Page.{AreShort, line, vertex_line, triangle_line, lines_to, mesh_page};
 
 use crate::Page;
 use crate::line::{put_count, put_triangle, put_vertex};
 
-pub(crate) fn put_mesh(
-    out: &mut Page,
-    vertices: &[f32],
-    n: usize,
-    triangles: &[u32],
-    m: usize,
-) -> usize
-    requires n_bound { (n ≤ 1024) × (5 * n ≤ length vertices.now) }
-    requires m_bound { (m ≤ 1536) × (3 * m ≤ length triangles.now) }
+// Five floats to a vertex, of which the first two are its place, and three numbers to a triangle.
+pub(crate) fn put_mesh(out: &mut Page, vertices: &[f32], triangles: &[u32]) -> usize
+    requires n_bound { length vertices.now ≤ 5120 }
+    requires m_bound { length triangles.now ≤ 4608 }
     requires are_short { AreShort triangles.now }
-    ensures puts { Puts (mesh_page n m vertices.now triangles.now) 0 out.old result out.new }
+    ensures puts { Puts (mesh_page (length vertices.now / 5) (length triangles.now / 3) vertices.now triangles.now) 0 out.old result out.new }
     ensures upper_bound { result ≤ 65536 }
 {
-    let v_counted = put_count(out, 0, b'v', n);
-    let drawn = put_vertices(out, v_counted, vertices, n);
-    let t_counted = put_count(out, drawn, b't', m);
-    put_triangles(out, t_counted, triangles, m)
+    let n = vertices.len() / 5;
+    let m = triangles.len() / 3;
+    let drawn = put_list(
+        out,
+        0,
+        b'v',
+        n,
+        |out: &mut Page, at: usize, i: usize| -> usize
+            requires { (at ≤ 65472) × (5 * i + 5 ≤ length vertices.now) }
+            ensures puts { Puts (vertex_line vertices.entry.now i) at out.old result out.new }
+            ensures upper_bound { result ≤ at + 18 }
+        { put_vertex(out, at, vertices[5 * i], vertices[5 * i + 1]) },
+    );
+    put_list(
+        out,
+        drawn,
+        b't',
+        m,
+        |out: &mut Page, at: usize, i: usize| -> usize
+            requires { (at ≤ 65472) × (3 * i + 3 ≤ length triangles.now) × AreShort triangles.now }
+            ensures puts { Puts (triangle_line triangles.entry.now i) at out.old result out.new }
+            ensures upper_bound { result ≤ at + 18 }
+        {
+            let k = 3 * i;
+            put_triangle(out, at, triangles[k], triangles[k + 1], triangles[k + 2])
+        },
+    )
 }
 
-// Five floats to a vertex, of which the first two are its place.
-fn put_vertices(out: &mut Page, at: usize, values: &[f32], n: usize) -> usize
-    requires n_bound { at + 18 * n ≤ 65472 }
-    requires n_in_bounds { 5 * n ≤ length values.now }
-    ensures puts { Puts (lines_to (vertex_line values.now) n) at out.old result out.new }
-    ensures upper_bound { result ≤ at + 18 * n }
+// Puts `L N`, and N lines behind it, each by a call. 18 bytes are room for each of these.
+fn put_list<F: Fn(&mut Page, usize, usize) -> usize>(
+    out: &mut Page,
+    at: usize,
+    letter: u8,
+    n: usize,
+    put: F,
+) -> usize
+    ghost line_of: { ℕ → List ℕ }
+    requires room { at + 23 + 18 * n ≤ 65472 }
+    requires callable { (o : _) (k i : ℕ) → k ≤ 65472 → i < n → F.pre put o k i }
+    requires each { (o : _) (k i j : ℕ) (p : _) → F.post put o k i j p → Puts (line_of i) k o.now j p.now × (j ≤ k + 18) }
+    ensures puts { Puts (line (letter ∷ []) (decimal_of n ∷ []) ++ lines_to line_of n) at out.old result out.new }
+    ensures upper_bound { result ≤ at + 23 + 18 * n }
 {
-    let mut next = at;
-    let mut i = 0;
-    while i < n {
-        next = put_vertex(out, next, values[5 * i], values[5 * i + 1]);
-        i += 1;
-    }
-    next
-}
-
-fn put_triangles(out: &mut Page, at: usize, numbers: &[u32], n: usize) -> usize
-    requires n_bound { at + 18 * n ≤ 65472 }
-    requires n_in_bounds { 3 * n ≤ length numbers.now }
-    requires are_short { AreShort numbers.now }
-    ensures puts { Puts (lines_to (triangle_line numbers.now) n) at out.old result out.new }
-    ensures upper_bound { result ≤ at + 18 * n }
-{
-    let mut next = at;
-    let mut i = 0;
-    while i < n {
-        next = put_triangle(
-            out,
-            next,
-            numbers[3 * i],
-            numbers[3 * i + 1],
-            numbers[3 * i + 2],
-        );
-        i += 1;
+    let mut next = put_count(out, at, letter, n);
+    for i in 0..n {
+        next = put(out, next, i);
     }
     next
 }

@@ -1,44 +1,19 @@
 // Standard input, taken as the bytes of a text.
-ghost use Rattle.std.specs.Prelude.{◌+◌, ◌≤◌, length};
+ghost use Rattle.std.specs.Prelude.{IfOk};
 ghost use Rattle.stripe.specs.Counts.{IsPrefixLen};
 
-use std::io::{Read, Stdin};
+use std::io::{self, Read, Stdin};
 
-// How many bytes came, and whether no read failed.
-#[derive(Drop)]
-pub struct Input {
-    pub count: usize,
-    pub whole: bool,
-}
-
-// Reads until the input ends, the list is full or a read fails.
-pub fn read_text(stdin: Stdin, text: &mut [u8]) -> Input
-    ensures { IsPrefixLen result.count text.new }
+// Reads until the input ends or the list is full, and answers how many bytes came. A read answers 0 at the end of the input.
+pub fn read_text(mut stdin: Stdin, text: &mut [u8]) -> io::Result<usize>
+    ensures { IfOk result (λ n. IsPrefixLen n text.new) }
 {
     let mut count = 0;
     while count < text.len() {
-        let more = read_from(stdin, text, count);
-        if more.count == 0 {
-            return Input {
-                count,
-                whole: more.whole,
-            };
+        match stdin.read(&mut text[count..])? {
+            0 => break,
+            n => count += n,
         }
-        count += more.count;
     }
-    Input { count, whole: true }
-}
-
-// Reads once, into the list from a place on. A read answers 0 at the end of the input.
-fn read_from(mut stdin: Stdin, text: &mut [u8], from: usize) -> Input
-    requires { from ≤ length text.old }
-    ensures { from + result.count ≤ length text.old }
-{
-    match stdin.read(&mut text[from..]) {
-        Ok(count) => Input { count, whole: true },
-        Err(_) => Input {
-            count: 0,
-            whole: false,
-        },
-    }
+    Ok(count)
 }

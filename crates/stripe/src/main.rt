@@ -13,9 +13,7 @@ const INPUT_ROOM: usize = TEXT_ROOM + 1;
 // Where a read failed nothing is printed: it would be the page of another text.
 fn main(rt: HostRuntime) {
     let mut text = [0u8; INPUT_ROOM];
-    let input = read_text(rt.stdin(), &mut text);
-    let n = input.count;
-    if input.whole {
+    if let Ok(n) = read_text(rt.stdin(), &mut text) {
         print(rt.stdout(), &text[..n]);
     }
 }

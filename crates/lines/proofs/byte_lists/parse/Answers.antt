@@ -2,6 +2,7 @@
 use mathlib.Core.Path.{◌≡◌, sym, ◌∙◌}
 use mathlib.Core.Bool.{true, false}
 use mathlib.Core.Logic.{inl, inr}
+use native.Mathlib.Omega.{arith}
 use lib.ListN.{length}
 use Rattle.lines.specs.Bytes.{is_dash}
 use Rattle.lines.proofs.Pairs.{dash_is, pairs_digits, held_pairs, lost_form, lost_room, by_dash, by_lost, by_pairs}
@@ -12,14 +13,14 @@ returns-then-eq c =
     let w = c.args.word.now in
     let xs = c.args.list.now in
     let e : is_dash w ≡ true = sym (dash_is w) ∙ rw (← c.as_slice.ensures) (sym c.if-eq.ensures) in
-    let both = by_dash (length xs) w xs e in record { value = both.0; list_after = both.1 }
+    let both = by_dash (length xs) w xs e in record { value = both.0; count_in_bounds = omega arith; list_after = both.1 }
 
 pub returns-then-not-are_pairs : goal.returns-then-not-are_pairs
 returns-then-not-are_pairs c =
     let w = c.args.word.now in
     let xs = c.args.list.now in
     let e : is_dash w ≡ false = sym (dash_is w) ∙ rw (← c.as_slice.ensures) (sym c.if-eq.ensures) in
-    let both = by_lost (length xs) w xs (elim c.then-not-are_pairs.either [ inl f ↦ lost_form (length xs) w e (sym c.are_pairs.ensures ∙ f) | inr f ↦ lost_room (length xs) w e (sym c.are_pairs.ensures ∙ f.0) f.1 ]) in record { value = both.0; list_after = both.1 }
+    let both = by_lost (length xs) w xs (elim c.then-not-are_pairs.either [ inl f ↦ lost_form (length xs) w e (sym c.are_pairs.ensures ∙ f) | inr f ↦ lost_room (length xs) w e (sym c.are_pairs.ensures ∙ f.0) f.1 ]) in record { value = both.0; count_in_bounds = tt; list_after = both.1 }
 
 pub put_pairs-requires : goal.put_pairs-requires
 put_pairs-requires c = (pairs_digits c.args.word.now (sym c.are_pairs.ensures ∙ c.if-not-are_pairs.false), c.if-list-count.false)
@@ -30,4 +31,4 @@ returns c =
     let xs = c.args.list.now in
     let e : is_dash w ≡ false = sym (dash_is w) ∙ rw (← c.as_slice.ensures) (sym c.if-eq.ensures) in
     let f = sym c.are_pairs.ensures ∙ c.if-not-are_pairs.false in
-    let both = by_pairs (length xs) w xs c.put_pairs.new.list (held_pairs (length xs) w e f c.if-list-count.false) c.put_pairs.ensures in record { value = both.0; list_after = both.1 }
+    let both = by_pairs (length xs) w xs c.put_pairs.new.list (held_pairs (length xs) w e f c.if-list-count.false) c.put_pairs.ensures in record { value = both.0; count_in_bounds = c.if-list-count.false; list_after = both.1 }
