@@ -1,5 +1,4 @@
--- For the layers above: none. `Walking`, a run point by point is a run of kept points; `Turns`, one point of a pass; `Splits` and `Writing`, a run's parts.
+-- For the layers above: `Penned`, a pass that is part of the way, whatever its pen. Else for none: `Walking`, the leg that is reached; `Writing`, an open run's parts.
+pub mod Penned
 pub mod Walking
-pub mod Turns
-pub mod Splits
 pub mod Writing

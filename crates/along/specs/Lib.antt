@@ -2,3 +2,5 @@
 pub mod Points
 pub mod Walk
 pub mod Strips
+pub mod Pen
+pub mod Laws

@@ -1,24 +1,25 @@
 // A pass along a run's points: each joint is written, or only counted, as soon as the leg behind it is known, so no point is stored.
 #![tactic(auto)]
 
+pub mod pen;
 pub mod strips;
 
 ghost use Rattle.std.specs.Prelude.{[], ◌∷◌, ◌≡◌, ◌+◌, ◌<◌, length, drop};
 ghost use Rattle.endpoint.specs.Endpoint.{id_limit};
 ghost use Rattle.joints.specs.Joint.{joint_of};
-ghost use Rattle.joints.specs.Leg.{next_leg_of};
 ghost use Rattle.join.specs.Record.{counts_of};
 ghost use Rattle.kept.specs.Points.{endpoints_of};
 ghost use Rattle.pieces.specs.Piece.{lent, Lays};
 ghost use Rattle.strip.specs.Strip.{StripFits, piece_of};
-ghost use Rattle.along.specs.Points.{advanced, drops, visit_of, visited, walked, passed};
-ghost use Rattle.along.specs.Walk.{Walks};
+ghost use Rattle.along.specs.Points.{drops, walked, passed};
+ghost use Rattle.along.specs.Walk.{Walks, needs_of, does_of};
+ghost use Rattle.along.specs.Laws.{walk_laws};
 
+use crate::pen::{Pen, pass_stretch};
 use endpoint::{Endpoint, EndpointId, VertexId};
 use join::record::{Counts, counts_of};
 use joints::joint::{joint_counts, joint_of};
 use joints::leg::{Leg, next_leg};
-use kept::endpoint_at;
 use kept::near::is_near;
 use options::Stroke;
 use pieces::Index;
@@ -76,23 +77,36 @@ fn pass_joint(
     joint_counts(pass.stroke, leg, next)
 }
 
-// The next point, which is kept.
-fn pass_kept(
-    v: &mut [f32],
-    src: &mut [u32],
-    t: &mut [Index],
-    pass: Pass,
-    w: Walk,
-    p: Endpoint,
-) -> Walk
-    requires { StripFits pass.write w.strip (advanced pass.stroke w.leg p) (lent v.old src.old t.old) }
-    ensures { Walks pass.write (advanced pass.stroke w.leg p) (next_leg_of pass.stroke.half_width w.leg p) w (lent v.old src.old t.old) (lent v.new src.new t.new) result }
-{
-    let next = next_leg(pass.stroke.half_width, w.leg, p);
-    let c = pass_joint(v, src, t, pass, w.leg, w.strip, next);
-    Walk {
-        leg: next,
-        strip: step(w.strip, c.positive, c.negative),
+impl Pen for Walk {
+    type Ink = ();
+
+    ghost reached = { λ w. w.leg };
+
+    ghost needs = { needs_of };
+
+    ghost does = { does_of };
+
+    ghost laws = { walk_laws };
+
+    fn leg(&self) -> Leg {
+        self.leg
+    }
+
+    fn pass_kept(
+        self,
+        v: &mut [f32],
+        src: &mut [u32],
+        t: &mut [Index],
+        pass: Pass,
+        ink: (),
+        p: Endpoint,
+    ) -> Walk {
+        let next = next_leg(pass.stroke.half_width, self.leg, p);
+        let c = pass_joint(v, src, t, pass, self.leg, self.strip, next);
+        Walk {
+            leg: next,
+            strip: step(self.strip, c.positive, c.negative),
+        }
     }
 }
 
@@ -101,25 +115,6 @@ pub fn is_dropped(limit: f32, sure: bool, leg: Leg, p: Endpoint) -> bool
     ensures { result ≡ drops limit sure leg p }
 {
     !sure && is_near(limit, leg.to.position, p.position)
-}
-
-// The next point, which may be dropped.
-fn pass_point(
-    v: &mut [f32],
-    src: &mut [u32],
-    t: &mut [Index],
-    pass: Pass,
-    w: Walk,
-    p: Endpoint,
-    sure: bool,
-) -> Walk
-    requires { StripFits pass.write w.strip (visited sure pass.stroke w.leg p) (lent v.old src.old t.old) }
-    ensures { Walks pass.write (visited sure pass.stroke w.leg p) (visit_of sure pass.stroke w.leg p) w (lent v.old src.old t.old) (lent v.new src.new t.new) result }
-{
-    if is_dropped(pass.stroke.near, sure, w.leg, p) {
-        return w;
-    }
-    pass_kept(v, src, t, pass, w, p)
 }
 
 // The points of a stretch.
@@ -136,10 +131,5 @@ pub fn pass_points(
     requires strip_fits { StripFits pass.write w.strip (passed s.sure pass.stroke w.leg (drop s.from (endpoints_of s.first.0 p.now))) (lent v.old src.old t.old) }
     ensures { Walks pass.write (passed s.sure pass.stroke w.leg (drop s.from (endpoints_of s.first.0 p.now))) (walked s.sure pass.stroke w.leg (drop s.from (endpoints_of s.first.0 p.now))) w (lent v.old src.old t.old) (lent v.new src.new t.new) result }
 {
-    let mut w = w;
-    for i in s.from..p.len() / 2 {
-        let c = endpoint_at(p, s.first, i);
-        w = pass_point(v, src, t, pass, w, c, s.sure);
-    }
-    w
+    pass_stretch(v, src, t, pass, (), w, p, s)
 }

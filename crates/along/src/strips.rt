@@ -8,10 +8,11 @@ ghost use Rattle.kept.specs.Points.{endpoint_at};
 ghost use Rattle.strip.specs.Strip.{StripFits, StripPasses, start_of};
 ghost use Rattle.pieces.specs.Piece.{lent};
 ghost use Rattle.along.specs.Walk.{Walks};
-ghost use Rattle.along.specs.Strips.{Within, round_of};
+ghost use Rattle.along.specs.Strips.{Within};
 
-use crate::{At, Pass, Stretch, Walk, pass_points};
-use endpoint::{EndpointData, EndpointId, VertexId, endpoint_after};
+use crate::pen::{go_round, pass_behind};
+use crate::{At, Pass, Walk};
+use endpoint::{EndpointData, EndpointId, VertexId};
 use joints::joint::{end_cap, start_cap};
 use joints::leg::{Leg, leg_of};
 use kept::endpoint_at;
@@ -90,42 +91,8 @@ pub fn pass_open(
 {
     let leg = first_leg(pass.stroke.half_width, p, at.endpoint, i);
     let begun = begin(v, src, t, pass, leg, at.vertex);
-    let rest = Stretch {
-        first: at.endpoint,
-        from: i + 1,
-        sure: false,
-    };
-    let w = pass_points(v, src, t, pass, begun, p, rest);
+    let w = pass_behind(v, src, t, pass, (), begun, p, at.endpoint, i);
     finish(v, src, t, pass, w)
-}
-
-// Round to p0 and on to p1, the points 0 and i: the joins n-1 and 0 of a closed run.
-fn go_round(
-    v: &mut [f32],
-    src: &mut [u32],
-    t: &mut [Index],
-    pass: Pass,
-    w: Walk,
-    p: &[f32],
-    on: Stretch,
-) -> Strip
-    requires within { Within p.now on.first.0 on.from }
-    requires strip_fits { StripFits pass.write w.strip (round_of pass.stroke w.leg (endpoint_at p.now on.first.0 0) (endpoint_at p.now on.first.0 on.from)) (lent v.old src.old t.old) }
-    ensures { StripPasses pass.write (round_of pass.stroke w.leg (endpoint_at p.now on.first.0 0) (endpoint_at p.now on.first.0 on.from)) w.strip (lent v.old src.old t.old) (lent v.new src.new t.new) result }
-{
-    let p0 = Stretch {
-        from: 0,
-        sure: true,
-        ..on
-    };
-    let home = pass_points(v, src, t, pass, w, &p[..2], p0);
-    let p1 = Stretch {
-        first: endpoint_after(on.first, on.from),
-        ..p0
-    };
-    let from = 2 * on.from;
-    let end = pass_points(v, src, t, pass, home, &p[from..from + 2], p1);
-    end.strip
 }
 
 // A closed run's joins.
@@ -147,16 +114,6 @@ pub fn pass_closed(
         leg,
         strip: start(at.vertex),
     };
-    let rest = Stretch {
-        first: at.endpoint,
-        from: i + 1,
-        sure: false,
-    };
-    let w = pass_points(v, src, t, pass, begun, p, rest);
-    let second = Stretch {
-        from: i,
-        sure: true,
-        ..rest
-    };
-    go_round(v, src, t, pass, w, p, second)
+    let w = pass_behind(v, src, t, pass, (), begun, p, at.endpoint, i);
+    go_round(v, src, t, pass, (), w, p, at.endpoint, i).strip
 }

@@ -6,14 +6,14 @@ pub begin-begun-requires : goal.begin-begun-requires
 begin-begun-requires c =
     begin_has c.args.pass.stroke _ _ _ c.first_leg-leg.ensures c.requires.strip_fits
 
-pub pass_points-w-requires-clause-strip_fits : goal.pass_points-w-requires-clause-strip_fits
-pass_points-w-requires-clause-strip_fits c =
+pub pass_behind-w-requires-clause-needed : goal.pass_behind-w-requires-clause-needed
+pass_behind-w-requires-clause-needed c =
     pass_has c.args.pass.stroke _ _ _ c.first_leg-leg.ensures c.requires.strip_fits c.begin-begun.ensures
 
 pub finish-requires : goal.finish-requires
 finish-requires c =
-    finish_has c.args.pass.stroke _ _ _ c.first_leg-leg.ensures c.requires.strip_fits c.begin-begun.ensures c.pass_points-w.ensures
+    finish_has c.args.pass.stroke _ _ _ c.first_leg-leg.ensures c.requires.strip_fits c.begin-begun.ensures c.pass_behind-w.ensures
 
 pub returns : goal.returns
 returns c =
-    open_puts c.args.pass.stroke _ _ _ c.first_leg-leg.ensures c.requires.strip_fits c.begin-begun.ensures c.pass_points-w.ensures c.finish.ensures
+    open_puts c.args.pass.stroke _ _ _ c.first_leg-leg.ensures c.requires.strip_fits c.begin-begun.ensures c.pass_behind-w.ensures c.finish.ensures
