@@ -6,20 +6,20 @@ pub mod strips;
 ghost use Rattle.std.specs.Prelude.{◌+◌, ◌<◌, length, drop};
 ghost use Rattle.endpoint.specs.Endpoint.{id_limit};
 ghost use Rattle.kept.specs.Points.{endpoints_of};
-ghost use Rattle.joints.specs.Leg.{next_leg_of};
 ghost use Rattle.pieces.specs.Piece.{lent};
-ghost use Rattle.along.specs.Points.{visit_of, walked};
+ghost use Rattle.along.specs.Points.{walked};
 ghost use Rattle.bends.specs.Weave.{WeaveFits};
-ghost use Rattle.weave.specs.Points.{advanced, visited, passed};
-ghost use Rattle.weave.specs.Walk.{Walks};
+ghost use Rattle.weave.specs.Points.{passed};
+ghost use Rattle.weave.specs.Walk.{Walks, needs_of, does_of};
+ghost use Rattle.weave.specs.Laws.{walk_laws};
 
-use along::{Pass, Stretch, is_dropped};
+use along::pen::{Pen, pass_stretch};
+use along::{Pass, Stretch};
 use bends::{Bend, Weave, pass_bend};
 use endpoint::Endpoint;
 use fans::Round;
 use joints::joint::joint_again;
 use joints::leg::{Leg, next_leg};
-use kept::endpoint_at;
 use pieces::Index;
 
 // How far a run has come: the leg reached, and what is woven or counted.
@@ -29,49 +29,41 @@ pub struct Walk {
     pub weave: Weave,
 }
 
-// The next point, which is kept.
-fn pass_kept(
-    v: &mut [f32],
-    src: &mut [u32],
-    t: &mut [Index],
-    pass: Pass,
-    r: Round,
-    w: Walk,
-    p: Endpoint,
-) -> Walk
-    requires { WeaveFits pass.write pass.stroke r w.weave (advanced pass.stroke w.leg p) (lent v.old src.old t.old) }
-    ensures { Walks pass r (advanced pass.stroke w.leg p) (next_leg_of pass.stroke.half_width w.leg p) w (lent v.old src.old t.old) (lent v.new src.new t.new) result }
-{
-    let next = next_leg(pass.stroke.half_width, w.leg, p);
-    let b = Bend {
-        joint: joint_again(pass.stroke, w.leg, next),
-        leg: w.leg,
-        end: false,
-    };
-    Walk {
-        leg: next,
-        weave: pass_bend(v, src, t, pass.write, pass.stroke, r, w.weave, b),
-    }
-}
+impl Pen for Walk {
+    type Ink = Round;
 
-// The next point, which may be dropped.
-fn pass_point(
-    v: &mut [f32],
-    src: &mut [u32],
-    t: &mut [Index],
-    pass: Pass,
-    r: Round,
-    w: Walk,
-    p: Endpoint,
-    sure: bool,
-) -> Walk
-    requires { WeaveFits pass.write pass.stroke r w.weave (visited sure pass.stroke w.leg p) (lent v.old src.old t.old) }
-    ensures { Walks pass r (visited sure pass.stroke w.leg p) (visit_of sure pass.stroke w.leg p) w (lent v.old src.old t.old) (lent v.new src.new t.new) result }
-{
-    if is_dropped(pass.stroke.near, sure, w.leg, p) {
-        return w;
+    ghost reached = { λ w. w.leg };
+
+    ghost needs = { needs_of };
+
+    ghost does = { does_of };
+
+    ghost laws = { walk_laws };
+
+    fn leg(&self) -> Leg {
+        self.leg
     }
-    pass_kept(v, src, t, pass, r, w, p)
+
+    fn pass_kept(
+        self,
+        v: &mut [f32],
+        src: &mut [u32],
+        t: &mut [Index],
+        pass: Pass,
+        r: Round,
+        p: Endpoint,
+    ) -> Walk {
+        let next = next_leg(pass.stroke.half_width, self.leg, p);
+        let b = Bend {
+            joint: joint_again(pass.stroke, self.leg, next),
+            leg: self.leg,
+            end: false,
+        };
+        Walk {
+            leg: next,
+            weave: pass_bend(v, src, t, pass.write, pass.stroke, r, self.weave, b),
+        }
+    }
 }
 
 // The points of a stretch.
@@ -89,10 +81,5 @@ pub fn pass_points(
     requires weave_fits { WeaveFits pass.write pass.stroke r w.weave (passed s.sure pass.stroke w.leg (drop s.from (endpoints_of s.first.0 p.now))) (lent v.old src.old t.old) }
     ensures { Walks pass r (passed s.sure pass.stroke w.leg (drop s.from (endpoints_of s.first.0 p.now))) (walked s.sure pass.stroke w.leg (drop s.from (endpoints_of s.first.0 p.now))) w (lent v.old src.old t.old) (lent v.new src.new t.new) result }
 {
-    let mut w = w;
-    for i in s.from..p.len() / 2 {
-        let c = endpoint_at(p, s.first, i);
-        w = pass_point(v, src, t, pass, r, w, c, s.sure);
-    }
-    w
+    pass_stretch(v, src, t, pass, r, w, p, s)
 }

@@ -9,14 +9,15 @@ ghost use Rattle.strip.specs.Strip.{StripFits, start_of};
 ghost use Rattle.along.specs.Strips.{Within};
 ghost use Rattle.pieces.specs.Piece.{lent, from};
 ghost use Rattle.bends.specs.Weave.{WeaveFits, WeavePasses};
-ghost use Rattle.weave.specs.Points.{bends_of, end_bend, round_of};
+ghost use Rattle.weave.specs.Points.{bends_of, end_bend};
 ghost use Rattle.weave.specs.Walk.{opened_of, closed_of};
 
-use crate::{Walk, pass_points};
+use crate::Walk;
+use along::pen::{go_round, pass_behind};
 use along::strips::first_leg;
-use along::{At, Pass, Stretch};
+use along::{At, Pass};
 use bends::{Bend, Weave, pass_bend};
-use endpoint::{VertexId, endpoint_after};
+use endpoint::VertexId;
 use fans::Round;
 use joints::joint::{end_cap, start_cap};
 use joints::leg::Leg;
@@ -93,43 +94,8 @@ pub fn weave_open(
         leg,
         weave: begin(pass.stroke, r, leg, at.vertex, arcs),
     };
-    let rest = Stretch {
-        first: at.endpoint,
-        from: i + 1,
-        sure: false,
-    };
-    let w = pass_points(v, src, t, pass, r, start, p, rest);
+    let w = pass_behind(v, src, t, pass, r, start, p, at.endpoint, i);
     finish(v, src, t, pass, r, w)
-}
-
-// Round to p0 and on to p1, the points 0 and i: the joins n-1 and 0 of a closed run.
-fn go_round(
-    v: &mut [f32],
-    src: &mut [u32],
-    t: &mut [Index],
-    pass: Pass,
-    r: Round,
-    w: Walk,
-    p: &[f32],
-    on: Stretch,
-) -> Weave
-    requires within { Within p.now on.first.0 on.from }
-    requires weave_fits { WeaveFits pass.write pass.stroke r w.weave (round_of pass.stroke w.leg (endpoint_at p.now on.first.0 0) (endpoint_at p.now on.first.0 on.from)) (lent v.old src.old t.old) }
-    ensures { WeavePasses pass.write pass.stroke r (round_of pass.stroke w.leg (endpoint_at p.now on.first.0 0) (endpoint_at p.now on.first.0 on.from)) w.weave (lent v.old src.old t.old) (lent v.new src.new t.new) result }
-{
-    let p0 = Stretch {
-        from: 0,
-        sure: true,
-        ..on
-    };
-    let home = pass_points(v, src, t, pass, r, w, &p[..2], p0);
-    let p1 = Stretch {
-        first: endpoint_after(on.first, on.from),
-        ..p0
-    };
-    let from = 2 * on.from;
-    let end = pass_points(v, src, t, pass, r, home, &p[from..from + 2], p1);
-    end.weave
 }
 
 // A closed run.
@@ -155,16 +121,6 @@ pub fn weave_closed(
         due: false,
     };
     let walk = Walk { leg, weave: begun };
-    let rest = Stretch {
-        first: at.endpoint,
-        from: i + 1,
-        sure: false,
-    };
-    let w = pass_points(v, src, t, pass, r, walk, p, rest);
-    let second = Stretch {
-        from: i,
-        sure: true,
-        ..rest
-    };
-    go_round(v, src, t, pass, r, w, p, second)
+    let w = pass_behind(v, src, t, pass, r, walk, p, at.endpoint, i);
+    go_round(v, src, t, pass, r, w, p, at.endpoint, i).weave
 }
