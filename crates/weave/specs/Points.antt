@@ -5,7 +5,7 @@ use Rattle.options.specs.declared.Stroke.{Stroke}
 use Rattle.joints.specs.Joint.{joint_of, end_cap_of}
 use Rattle.joints.specs.Leg.{first_leg_of, next_leg_of}
 use Rattle.joints.specs.declared.leg.Leg.{Leg}
-use Rattle.along.specs.Points.{drops, keeps}
+use Rattle.along.specs.Points.{keeps}
 use Rattle.bends.specs.declared.Bend.{Bend}
 
 -- where a leg meets the next
@@ -31,14 +31,6 @@ bends_of false o (p0 ∷ p1 ∷ ps) = bends_from false o (first_leg_of o.half_wi
 abbrev pub advanced : Stroke → Leg → Endpoint → List Bend
 advanced o leg p = bend_of o leg (next_leg_of o.half_width leg p) ∷ []
 
--- or may be dropped
-unfoldable pub visited : Bool → Stroke → Leg → Endpoint → List Bend
-visited sure o leg p = cond (drops o.near sure leg p) [] (advanced o leg p)
-
 -- the joints on the way along the points ps
 abbrev pub passed : Bool → Stroke → Leg → List Endpoint → List Bend
 passed sure o leg ps = bends_from true o leg (keeps o.near sure leg.to ps)
-
--- from a leg to p0 and on to p1
-abbrev pub round_of : Stroke → Leg → Endpoint → Endpoint → List Bend
-round_of o leg p0 p1 = advanced o leg p0 ++ advanced o (next_leg_of o.half_width leg p0) p1
