@@ -22,7 +22,6 @@ use Rattle.cuts.specs.Runs.{cut_runs}
 use Rattle.cuts.proofs.Runs.{cut_append, few_between}
 use Rattle.runs.specs.Runs.{cut_of, CutsFew, mesh_vertices, mesh_triangles, mesh_piece}
 use Rattle.runs.specs.Cursor.{undrawn, start_of, moved_of, current_of, ended_of}
-use Rattle.runs.specs.Passes.{Paired, Inside}
 use Rattle.runs.specs.declared.cursor.Cursor.{Cursor}
 use Rattle.runs.proofs.Passing.{Passing, moved_place, pass_none, pass_split, pass_turn, pass_all}
 use Rattle.runs.proofs.Runs.{meshes_append}

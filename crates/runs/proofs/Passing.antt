@@ -6,7 +6,6 @@ use mathlib.Core.Bool.{Bool, true, false, cond}
 use mathlib.Core.List.{List, [], ◌∷◌, ◌++◌, append_assoc, append-nil}
 use native.Mathlib.Omega.{arith}
 use native.Mathlib.Numerals.{add-one}
-use lib.Ieee.{Float}
 use lib.ListN.{length, take, drop, get_or, length-append, length-take, drop_of_length-le}
 use lib.Seq.{drop-drop, drop-cons}
 use Rattle.endpoint.specs.Endpoint.{endpoint_after}
@@ -17,7 +16,6 @@ use Rattle.path.specs.Runs.{Run, runs_from, points_of}
 use Rattle.path.specs.Verbs.{names, named, point_count}
 use Rattle.path.proofs.Runs.{points_append}
 use Rattle.runs.specs.Cursor.{start_of, moved_of, current_of, ended_of}
-use Rattle.runs.specs.Passes.{Paired, Inside}
 use Rattle.runs.specs.declared.cursor.Cursor.{Cursor}
 
 pub record Passing (vs : List ℕ) (ps : List Endpoint) (i : ℕ) (g : Cursor) (done : List (Run Endpoint)) : Type 0 where

@@ -5,7 +5,7 @@ use Rattle.options.specs.declared.Stroke.{Stroke}
 use Rattle.joints.specs.Joint.{joint_of, end_cap_of}
 use Rattle.joints.specs.Leg.{first_leg_of, next_leg_of}
 use Rattle.joints.specs.declared.leg.Leg.{Leg}
-use Rattle.along.specs.Points.{drops, keeps}
+use Rattle.along.specs.Points.{keeps}
 use Rattle.bends.specs.declared.Bend.{Bend}
 
 -- where a leg meets the next
