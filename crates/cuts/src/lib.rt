@@ -19,6 +19,7 @@ use crate::edge::CUT_LIMIT;
 use crate::run_cuts::count_run;
 use dashes::pattern::{Beat, first_cut, worn};
 use endpoint::{EndpointId, endpoint_after};
+use kept::points::Points;
 use path::check_path;
 use path::verbs::{END_CLOSED, names_point};
 use refusals::Refusal;
@@ -48,8 +49,10 @@ fn count_verb(ds: &[f32], limit: f32, b: Beat, coords: &[f32], g: Progress, verb
         ds,
         limit,
         b,
-        &coords[2 * i..2 * (i + g.size)],
-        g.first,
+        Points {
+            coords: &coords[2 * i..2 * (i + g.size)],
+            first: g.first,
+        },
         verb == END_CLOSED,
         g.cuts,
     );

@@ -1,8 +1,7 @@
-// The cuts of one run, read off its coordinates p, whose endpoints are numbered from first; n is the number of cuts before it.
+// The cuts of one run; n is the number of cuts before it.
 ghost use Rattle.std.specs.Prelude.{false, ◌≡◌, ◌+◌, ◌*◌, ◌≤◌, ◌<◌, length};
-ghost use Rattle.endpoint.specs.Endpoint.{id_limit};
 ghost use Rattle.kept.specs.Kept.{kept_points};
-ghost use Rattle.kept.specs.Points.{endpoints_of};
+ghost use Rattle.kept.specs.Held.{points_of};
 ghost use Rattle.cuts.specs.Cuts.{capped_of, kept_cuts};
 ghost use Rattle.cuts.specs.Counts.{Ready, Bounded, Visited, PointsCounted};
 
@@ -10,9 +9,10 @@ use crate::edge::{count_next, count_on};
 use dashes::count::Passed;
 use dashes::pattern::Beat;
 use dashes::spot::spot_of;
-use endpoint::{Endpoint, EndpointId};
+use endpoint::Endpoint;
 use kept::near::is_near;
-use kept::{endpoint_at, first_far, kept_end};
+use kept::points::Points;
+use kept::{first_far, kept_end};
 
 // The next point, which may be dropped.
 fn visit(ds: &[f32], limit: f32, t: Passed, p: Endpoint) -> Passed
@@ -29,16 +29,15 @@ fn visit(ds: &[f32], limit: f32, t: Passed, p: Endpoint) -> Passed
 fn count_points(
     ds: &[f32],
     limit: f32,
-    p: &[f32],
-    first: EndpointId,
+    p: Points,
     i: usize,
     mut t: Passed,
 ) -> Passed
-    requires { (0 < length ds.now) × Bounded t × (2 * i ≤ length p.now) × (first.0 + length p.now < id_limit) }
-    ensures { PointsCounted limit ds.now p.now first.0 i t result }
+    requires { (0 < length ds.now) × Bounded t × (2 * i ≤ length p.coords.now) }
+    ensures { PointsCounted limit ds.now p.entry.coords.now p.entry.first.0 i t result }
 {
-    for j in i..p.len() / 2 {
-        t = visit(ds, limit, t, endpoint_at(p, first, j));
+    for j in i..p.count() {
+        t = visit(ds, limit, t, p.at(j));
     }
     t
 }
@@ -48,25 +47,23 @@ fn count_kept(
     ds: &[f32],
     limit: f32,
     b: Beat,
-    p: &[f32],
-    first: EndpointId,
+    p: Points,
     closed: bool,
     n: usize,
 ) -> usize
-    requires { Ready ds.now b n × (2 ≤ length p.now) × (first.0 + length p.now < id_limit) }
-    ensures { result ≡ capped_of (n + kept_cuts closed ds.now b (kept_points limit false (endpoints_of first.0 p.now))) }
+    requires { Ready ds.now b n × (2 ≤ length p.coords.now) }
+    ensures { result ≡ capped_of (n + kept_cuts closed ds.now b (kept_points limit false (points_of p.entry))) }
 {
-    let i = first_far(limit, p, first);
-    if p.len() / 2 <= i {
+    let i = first_far(limit, p);
+    if p.count() <= i {
         return n;
     }
-    let p0 = endpoint_at(p, first, 0);
-    let p1 = endpoint_at(p, first, i);
+    let p0 = p.at(0);
     let start = Passed {
-        spot: spot_of(p0, 0.0, p1, b),
+        spot: spot_of(p0, 0.0, p.at(i), b),
         count: n,
     };
-    let t = count_points(ds, limit, p, first, i + 1, count_on(ds, start));
+    let t = count_points(ds, limit, p, i + 1, count_on(ds, start));
     if closed {
         return count_next(ds, t, p0).count;
     }
@@ -78,20 +75,19 @@ pub fn count_run(
     ds: &[f32],
     limit: f32,
     b: Beat,
-    p: &[f32],
-    first: EndpointId,
+    p: Points,
     closed: bool,
     n: usize,
 ) -> usize
-    requires { Ready ds.now b n × (first.0 + length p.now < id_limit) }
-    ensures { result ≡ capped_of (n + kept_cuts closed ds.now b (kept_points limit closed (endpoints_of first.0 p.now))) }
+    requires { Ready ds.now b n }
+    ensures { result ≡ capped_of (n + kept_cuts closed ds.now b (kept_points limit closed (points_of p.entry))) }
 {
-    if p.len() < 2 {
+    if p.coords.len() < 2 {
         return n;
     }
     if closed {
-        let to = 2 * kept_end(limit, p, first);
-        return count_kept(ds, limit, b, &p[..to], first, true, n);
+        let to = 2 * kept_end(limit, p);
+        return count_kept(ds, limit, b, p.up_to(to), true, n);
     }
-    count_kept(ds, limit, b, p, first, false, n)
+    count_kept(ds, limit, b, p, false, n)
 }

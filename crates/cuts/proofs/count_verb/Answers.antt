@@ -15,7 +15,7 @@ returns-then-names_point c =
 pub count_run-cuts-requires : goal.count_run-cuts-requires
 count_run-cuts-requires c =
     let pre = c.requires in
-    (record { some = pre.0; first = pre.1; few = pre.2.few }, simp (length-take, length-drop) (omega (arith, pre.2.end, pre.2.short)))
+    record { some = pre.0; first = pre.1; few = pre.2.few }
 
 pub endpoint_after-requires : goal.endpoint_after-requires
 endpoint_after-requires c =

@@ -3,4 +3,4 @@ use Rattle.cuts.proofs.Counting.{Counting}
 use Rattle.cuts.proofs.run_cuts.count_points.Given as goal
 
 abbrev pub invariant-loop-j : goal.invariant-loop-j
-invariant-loop-j l = Counting l.limit l.ds l.p l.first.0 l.i l.initial.t l.j l.t
+invariant-loop-j l = Counting l.limit l.ds l.p.coords.now l.p.first.0 l.i l.initial.t l.j l.t
