@@ -1,19 +1,17 @@
 // W-213: the marks of a run, one by one, from its coordinates. Nothing is stored: a feed knows the edge that it is on and the next point to look at.
 //
-// p has the run's coordinates, of which none is dropped on closing, and first the number of its first endpoint; points whose squared distance is below
-// near are near; ds holds the lengths of the pattern.
+// p has the points of the run, of which none is dropped on closing; points whose squared distance is below near are near; ds holds the lengths of the pattern.
 #![tactic(auto)]
 
 pub mod trail;
 
 ghost use Rattle.std.specs.Prelude.{◌≡◌, ◌+◌, ◌*◌, ◌/◌, ◌≤◌, ◌<◌, length, MatchOption};
-ghost use Rattle.endpoint.specs.Endpoint.{id_limit};
 ghost use Rattle.feed.specs.Feed.{NextFar, Turns, FeedFits, Feeds, first_feed};
 
 use dashes::pattern::Beat;
 use dashes::spot::{Mark, Spot, cut_of, falls, passed, spot_of, turned};
-use endpoint::{Endpoint, EndpointId};
-use kept::endpoint_at;
+use endpoint::Endpoint;
+use kept::points::{Kept, Points};
 use kept::near::is_near;
 
 // The edge that comes next, with the next cut; the index of the next point to look at; whether the way back to p0 is still to come.
@@ -32,12 +30,12 @@ pub struct Fed {
 }
 
 // The first point from the one at i on that is not near a.
-fn next_far(near: f32, p: &[f32], first: EndpointId, a: Endpoint, i: usize) -> Option<usize>
-    requires { (2 * i ≤ length p.now) × (first.0 + length p.now < id_limit) }
-    ensures { MatchOption result (NextFar near p.now first.0 a i (length p.now / 2)) (λ j. NextFar near p.now first.0 a i j × (j < length p.now / 2)) }
+fn next_far(near: f32, p: Points, a: Endpoint, i: usize) -> Option<usize>
+    requires { 2 * i ≤ length p.coords.now }
+    ensures { MatchOption result (NextFar near p.entry.coords.now p.entry.first.0 a i (length p.entry.coords.now / 2)) (λ j. NextFar near p.entry.coords.now p.entry.first.0 a i j × (j < length p.entry.coords.now / 2)) }
 {
-    for j in i..p.len() / 2 {
-        if !is_near(near, a.position, endpoint_at(p, first, j).position) {
+    for j in i..p.count() {
+        if !is_near(near, a.position, p.at(j).position) {
             return Some(j);
         }
     }
@@ -45,28 +43,28 @@ fn next_far(near: f32, p: &[f32], first: EndpointId, a: Endpoint, i: usize) -> O
 }
 
 // Past a corner, onto the next edge.
-fn turn(near: f32, p: &[f32], first: EndpointId, f: Feed) -> Option<Feed>
-    requires { (2 ≤ length p.now) × (2 * f.next ≤ length p.now) × (first.0 + length p.now < id_limit) }
-    ensures { Turns near p.now first.0 f result }
+fn turn(near: f32, p: Points, f: Feed) -> Option<Feed>
+    requires { (2 ≤ length p.coords.now) × (2 * f.next ≤ length p.coords.now) }
+    ensures { Turns near p.entry.coords.now p.entry.first.0 f result }
 {
-    match next_far(near, p, first, f.spot.to, f.next) {
+    match next_far(near, p, f.spot.to, f.next) {
         Some(i) => Some(Feed {
-            spot: turned(f.spot, endpoint_at(p, first, i)),
+            spot: turned(f.spot, p.at(i)),
             next: i + 1,
             ..f
         }),
         None if f.closes => Some(Feed {
-            spot: turned(f.spot, endpoint_at(p, first, 0)),
-            next: p.len() / 2,
+            spot: turned(f.spot, p.at(0)),
+            next: p.count(),
             closes: false,
         }),
         None => None,
     }
 }
 
-pub fn next_fed(near: f32, p: &[f32], first: EndpointId, ds: &[f32], f: Feed) -> Fed
-    requires { FeedFits near p.now first.0 ds.now (Some f) }
-    ensures { Feeds near p.now first.0 ds.now f result }
+pub fn next_fed(near: f32, p: Points, ds: &[f32], f: Feed) -> Fed
+    requires { FeedFits near p.coords.now p.first.0 ds.now (Some f) }
+    ensures { Feeds near p.entry.coords.now p.entry.first.0 ds.now f result }
 {
     if falls(f.spot) {
         return Fed {
@@ -79,20 +77,17 @@ pub fn next_fed(near: f32, p: &[f32], first: EndpointId, ds: &[f32], f: Feed) ->
     }
     Fed {
         mark: Mark::Corner(f.spot.to),
-        feed: turn(near, p, first, f),
+        feed: turn(near, p, f),
     }
 }
 
-// At the first point of a run whose second kept point stands at i; b is the first cut.
-pub fn first_feed(p: &[f32], first: EndpointId, i: usize, closed: bool, b: Beat) -> Feed
-    requires { (2 * i + 2 ≤ length p.now) × (first.0 + length p.now < id_limit) }
-    ensures { result ≡ first_feed p.now first.0 i closed b }
+// At the first point of a run; b is the first cut.
+pub fn first_feed(k: Kept, closed: bool, b: Beat) -> Feed
+    ensures { result ≡ first_feed k.entry.points.coords.now k.entry.points.first.0 k.entry.second closed b }
 {
-    let p0 = endpoint_at(p, first, 0);
-    let p1 = endpoint_at(p, first, i);
     Feed {
-        spot: spot_of(p0, 0.0, p1, b),
-        next: i + 1,
+        spot: spot_of(k.p0(), 0.0, k.p1(), b),
+        next: k.second + 1,
         closes: closed,
     }
 }

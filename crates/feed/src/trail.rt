@@ -4,8 +4,9 @@ ghost use Rattle.feed.specs.Trail.{Follows, Begins};
 
 use crate::{Feed, next_fed};
 use dashes::spot::Mark;
-use endpoint::{Endpoint, EndpointId};
+use endpoint::Endpoint;
 use kept::near::is_near;
+use kept::points::Points;
 
 // The last kept point of a dash, whether the dash goes on behind it, and the feed there.
 #[derive(Clone, Copy)]
@@ -19,18 +20,17 @@ pub struct Trail {
 // Cut runs pass through rule 1 again: a point that is near the last kept one is dropped. A cut is the last point of a dash.
 pub fn next_point(
     near: f32,
-    p: &[f32],
-    first: EndpointId,
+    p: Points,
     ds: &[f32],
     t: &mut Trail,
 ) -> Option<Endpoint>
-    requires { FeedFits near p.now first.0 ds.now t.old.feed }
-    ensures { Follows near p.now first.0 ds.now t.old result t.new }
+    requires { FeedFits near p.coords.now p.first.0 ds.now t.old.feed }
+    ensures { Follows near p.entry.coords.now p.entry.first.0 ds.now t.old result t.new }
 {
     while t.on
         && let Some(f) = t.feed
     {
-        let m = next_fed(near, p, first, ds, f);
+        let m = next_fed(near, p, ds, f);
         t.feed = m.feed;
         let q = match m.mark {
             Mark::Cut(q) => {
@@ -50,16 +50,15 @@ pub fn next_point(
 // Through a gap to the next dash, which begins at a cut.
 pub fn next_dash(
     near: f32,
-    p: &[f32],
-    first: EndpointId,
+    p: Points,
     ds: &[f32],
     mut feed: Option<Feed>,
 ) -> Option<Trail>
-    requires { FeedFits near p.now first.0 ds.now feed }
-    ensures { Begins near p.now first.0 ds.now feed result }
+    requires { FeedFits near p.coords.now p.first.0 ds.now feed }
+    ensures { Begins near p.entry.coords.now p.entry.first.0 ds.now feed result }
 {
     while let Some(f) = feed {
-        let m = next_fed(near, p, first, ds, f);
+        let m = next_fed(near, p, ds, f);
         feed = m.feed;
         if let Mark::Cut(q) = m.mark {
             return Some(Trail {

@@ -6,4 +6,4 @@ use Rattle.kept.specs.Points.{endpoints_of}
 use Rattle.feed.proofs.next_far.Given as goal
 
 abbrev pub invariant-loop-j : goal.invariant-loop-j
-invariant-loop-j l = kept_behind l.near l.a (drop l.i (endpoints_of l.first.0 l.p)) ≡ kept_behind l.near l.a (drop l.j (endpoints_of l.first.0 l.p))
+invariant-loop-j l = kept_behind l.near l.a (drop l.i (endpoints_of l.p.first.0 l.p.coords.now)) ≡ kept_behind l.near l.a (drop l.j (endpoints_of l.p.first.0 l.p.coords.now))

@@ -5,7 +5,7 @@ use Rattle.feed.proofs.Trailing.{Seeking}
 use Rattle.feed.proofs.trail.next_dash.Given as goal
 
 abbrev pub invariant-loop-feed : goal.invariant-loop-feed
-invariant-loop-feed l = Seeking l.near l.p l.first.0 l.ds l.initial.feed l.feed
+invariant-loop-feed l = Seeking l.near l.p.coords.now l.p.first.0 l.ds l.initial.feed l.feed
 
 abbrev pub decreases-loop-feed : goal.decreases-loop-feed
-decreases-loop-feed l = length (comes l.near l.p l.first.0 l.ds l.feed)
+decreases-loop-feed l = length (comes l.near l.p.coords.now l.p.first.0 l.ds l.feed)
