@@ -13,12 +13,14 @@ ghost use Rattle.feed.specs.Trail.{trail_points};
 ghost use Rattle.dashed.specs.Passes.{dash_kept, DashFits};
 
 use crate::Dash;
-use along::{At, Pass, Stretch};
+use along::Pass;
+use along::stretch::Stretch;
 use bends::Weave;
-use endpoint::{Endpoint, EndpointId, VertexId, vertex_after};
+use endpoint::{Endpoint, VertexId, vertex_after};
 use fans::Round;
 use feed::trail::{Trail, next_point};
 use joints::leg::leg_of;
+use kept::points::Points;
 use pieces::{Index, Place};
 use weave::strips::{begin, finish};
 use weave::{Walk, pass_points};
@@ -40,11 +42,14 @@ fn weave_one(
 {
     let xy = [q.position.x, q.position.y];
     let one = Stretch {
-        first: q.id,
+        points: Points {
+            coords: &xy,
+            first: q.id,
+        },
         from: 0,
         sure: true,
     };
-    pass_points(v, src, t, pass, r, w, &xy, one)
+    pass_points(v, src, t, pass, r, w, one)
 }
 
 // The points of a dash that are to come, and its end cap.
@@ -55,16 +60,15 @@ fn weave_on(
     pass: Pass,
     r: Round,
     mut w: Walk,
-    p: &[f32],
-    first: EndpointId,
+    p: Points,
     ds: &[f32],
     mut trail: Trail,
 ) -> Weave
-    requires feed_fits { FeedFits pass.stroke.near p.now first.0 ds.now trail.feed × All WellNumbered (trail_points pass.stroke.near p.now first.0 ds.now trail) }
-    requires weave_fits { WeaveFits pass.write pass.stroke r w.weave (bends_from false pass.stroke w.leg (trail_points pass.stroke.near p.now first.0 ds.now trail)) (lent v.old src.old t.old) }
-    ensures { WeavePasses pass.write pass.stroke r (bends_from false pass.stroke w.leg (trail_points pass.stroke.near p.now first.0 ds.now trail)) w.weave (lent v.old src.old t.old) (lent v.new src.new t.new) result }
+    requires feed_fits { FeedFits pass.stroke.near p.coords.now p.first.0 ds.now trail.feed × All WellNumbered (trail_points pass.stroke.near p.coords.now p.first.0 ds.now trail) }
+    requires weave_fits { WeaveFits pass.write pass.stroke r w.weave (bends_from false pass.stroke w.leg (trail_points pass.stroke.near p.coords.now p.first.0 ds.now trail)) (lent v.old src.old t.old) }
+    ensures { WeavePasses pass.write pass.stroke r (bends_from false pass.stroke w.leg (trail_points pass.stroke.near p.entry.coords.now p.entry.first.0 ds.now trail)) w.weave (lent v.old src.old t.old) (lent v.new src.new t.new) result }
 {
-    while let Some(q) = next_point(pass.stroke.near, p, first, ds, &mut trail) {
+    while let Some(q) = next_point(pass.stroke.near, p, ds, &mut trail) {
         w = weave_one(v, src, t, pass, r, w, q);
     }
     finish(v, src, t, pass, r, w)
@@ -77,23 +81,23 @@ fn weave_dash(
     t: &mut [Index],
     pass: Pass,
     r: Round,
-    p: &[f32],
-    at: At,
+    p: Points,
+    base: VertexId,
     ds: &[f32],
     d: Dash,
     arcs: VertexId,
 ) -> Place
-    requires dash_fits { DashFits pass.stroke.near p.now at.endpoint.0 ds.now d }
-    requires woven_fits { WovenFits pass.write false pass.stroke r at.vertex (dash_kept pass.stroke.near p.now at.endpoint.0 ds.now d) (from arcs) (lent v.old src.old t.old) }
-    ensures { WeftPasses pass.write (from arcs) (woven_of false pass.stroke r at.vertex (dash_kept pass.stroke.near p.now at.endpoint.0 ds.now d)) (lent v.old src.old t.old) (lent v.new src.new t.new) result }
+    requires dash_fits { DashFits pass.stroke.near p.coords.now p.first.0 ds.now d }
+    requires woven_fits { WovenFits pass.write false pass.stroke r base (dash_kept pass.stroke.near p.coords.now p.first.0 ds.now d) (from arcs) (lent v.old src.old t.old) }
+    ensures { WeftPasses pass.write (from arcs) (woven_of false pass.stroke r base (dash_kept pass.stroke.near p.entry.coords.now p.entry.first.0 ds.now d)) (lent v.old src.old t.old) (lent v.new src.new t.new) result }
 {
     let o = pass.stroke;
     let leg = leg_of(o.half_width, 0.0, d.from, d.trail.last);
     let start = Walk {
         leg,
-        weave: begin(o, r, leg, at.vertex, arcs),
+        weave: begin(o, r, leg, base, arcs),
     };
-    let w = weave_on(v, src, t, pass, r, start, p, at.endpoint, ds, d.trail);
+    let w = weave_on(v, src, t, pass, r, start, p, ds, d.trail);
     w.place
 }
 
@@ -104,22 +108,22 @@ pub fn weave_behind(
     t: &mut [Index],
     pass: Pass,
     r: Round,
-    p: &[f32],
-    at: At,
+    p: Points,
+    base: VertexId,
     ds: &[f32],
     d: Dash,
     n: usize,
 ) -> Place
-    requires dash_fits { DashFits pass.stroke.near p.now at.endpoint.0 ds.now d }
-    requires woven_fits { WovenFits pass.write false pass.stroke r at.vertex (dash_kept pass.stroke.near p.now at.endpoint.0 ds.now d) (over_strip at.vertex n) (lent v.old src.old t.old) }
-    ensures { WeftPasses pass.write (over_strip at.vertex n) (woven_of false pass.stroke r at.vertex (dash_kept pass.stroke.near p.now at.endpoint.0 ds.now d)) (lent v.old src.old t.old) (lent v.new src.new t.new) result }
+    requires dash_fits { DashFits pass.stroke.near p.coords.now p.first.0 ds.now d }
+    requires woven_fits { WovenFits pass.write false pass.stroke r base (dash_kept pass.stroke.near p.coords.now p.first.0 ds.now d) (over_strip base n) (lent v.old src.old t.old) }
+    ensures { WeftPasses pass.write (over_strip base n) (woven_of false pass.stroke r base (dash_kept pass.stroke.near p.entry.coords.now p.entry.first.0 ds.now d)) (lent v.old src.old t.old) (lent v.new src.new t.new) result }
 {
     let b = place_of(pass.write, n);
     let a = 5 * b;
-    let arcs = vertex_after(at.vertex, n);
-    let k = weave_dash(&mut v[a..], &mut src[b..], t, pass, r, p, at, ds, d, arcs);
+    let arcs = vertex_after(base, n);
+    let k = weave_dash(&mut v[a..], &mut src[b..], t, pass, r, p, base, ds, d, arcs);
     Place {
-        base: at.vertex,
+        base,
         vertices: n + k.vertices,
         triangles: k.triangles,
     }

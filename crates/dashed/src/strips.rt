@@ -12,12 +12,14 @@ ghost use Rattle.feed.specs.Trail.{trail_points};
 ghost use Rattle.dashed.specs.Passes.{dash_kept, DashFits, Strips};
 
 use crate::Dash;
+use along::stretch::Stretch;
 use along::strips::{begin, finish};
-use along::{At, Pass, Stretch, Walk, pass_points};
-use endpoint::{Endpoint, EndpointId};
+use along::{Pass, Walk, pass_points};
+use endpoint::{Endpoint, VertexId};
 use feed::Feed;
 use feed::trail::{Trail, next_point};
 use joints::leg::leg_of;
+use kept::points::Points;
 use pieces::Index;
 use strip::Strip;
 
@@ -44,11 +46,14 @@ fn strip_one(
 {
     let xy = [q.position.x, q.position.y];
     let one = Stretch {
-        first: q.id,
+        points: Points {
+            coords: &xy,
+            first: q.id,
+        },
         from: 0,
         sure: true,
     };
-    pass_points(v, src, t, pass, w, &xy, one)
+    pass_points(v, src, t, pass, w, one)
 }
 
 // The points of a dash that are to come, and its end cap.
@@ -58,16 +63,15 @@ fn strip_on(
     t: &mut [Index],
     pass: Pass,
     mut w: Walk,
-    p: &[f32],
-    first: EndpointId,
+    p: Points,
     ds: &[f32],
     mut trail: Trail,
 ) -> Stripped
-    requires feed_fits { FeedFits pass.stroke.near p.now first.0 ds.now trail.feed × All WellNumbered (trail_points pass.stroke.near p.now first.0 ds.now trail) }
-    requires strip_fits { StripFits pass.write w.strip (joints_from false pass.stroke w.leg (trail_points pass.stroke.near p.now first.0 ds.now trail)) (lent v.old src.old t.old) }
-    ensures { Strips pass p.now first.0 ds.now trail (joints_from false pass.stroke w.leg (trail_points pass.stroke.near p.now first.0 ds.now trail)) w.strip (lent v.old src.old t.old) (lent v.new src.new t.new) result }
+    requires feed_fits { FeedFits pass.stroke.near p.coords.now p.first.0 ds.now trail.feed × All WellNumbered (trail_points pass.stroke.near p.coords.now p.first.0 ds.now trail) }
+    requires strip_fits { StripFits pass.write w.strip (joints_from false pass.stroke w.leg (trail_points pass.stroke.near p.coords.now p.first.0 ds.now trail)) (lent v.old src.old t.old) }
+    ensures { Strips pass p.entry.coords.now p.entry.first.0 ds.now trail (joints_from false pass.stroke w.leg (trail_points pass.stroke.near p.entry.coords.now p.entry.first.0 ds.now trail)) w.strip (lent v.old src.old t.old) (lent v.new src.new t.new) result }
 {
-    while let Some(q) = next_point(pass.stroke.near, p, first, ds, &mut trail) {
+    while let Some(q) = next_point(pass.stroke.near, p, ds, &mut trail) {
         w = strip_one(v, src, t, pass, w, q);
     }
     Stripped {
@@ -82,16 +86,16 @@ pub fn strip_dash(
     src: &mut [u32],
     t: &mut [Index],
     pass: Pass,
-    p: &[f32],
-    at: At,
+    p: Points,
+    base: VertexId,
     ds: &[f32],
     d: Dash,
 ) -> Stripped
-    requires dash_fits { DashFits pass.stroke.near p.now at.endpoint.0 ds.now d }
-    requires strip_fits { StripFits pass.write (start_of at.vertex) (joints_of false pass.stroke (dash_kept pass.stroke.near p.now at.endpoint.0 ds.now d)) (lent v.old src.old t.old) }
-    ensures { Strips pass p.now at.endpoint.0 ds.now d.trail (joints_of false pass.stroke (dash_kept pass.stroke.near p.now at.endpoint.0 ds.now d)) (start_of at.vertex) (lent v.old src.old t.old) (lent v.new src.new t.new) result }
+    requires dash_fits { DashFits pass.stroke.near p.coords.now p.first.0 ds.now d }
+    requires strip_fits { StripFits pass.write (start_of base) (joints_of false pass.stroke (dash_kept pass.stroke.near p.coords.now p.first.0 ds.now d)) (lent v.old src.old t.old) }
+    ensures { Strips pass p.entry.coords.now p.entry.first.0 ds.now d.trail (joints_of false pass.stroke (dash_kept pass.stroke.near p.entry.coords.now p.entry.first.0 ds.now d)) (start_of base) (lent v.old src.old t.old) (lent v.new src.new t.new) result }
 {
     let leg = leg_of(pass.stroke.half_width, 0.0, d.from, d.trail.last);
-    let w = begin(v, src, t, pass, leg, at.vertex);
-    strip_on(v, src, t, pass, w, p, at.endpoint, ds, d.trail)
+    let w = begin(v, src, t, pass, leg, base);
+    strip_on(v, src, t, pass, w, p, ds, d.trail)
 }

@@ -17,7 +17,7 @@ missed None h = refl
 pub draw_line-requires : goal.draw_line-requires
 draw_line-requires c =
     let e = rw (found c.next_point.result (sym c.is_some.ensures ∙ c.if-is_some.true)).1 at c.next_point.ensures in
-    record { dash_fits = dash_fits c.args.pass c.args.r _ _ _ _ c.requires.trail_fits _ _ e; detail_bound = c.requires.detail_bound; fits = rw (piece_is c.args.pass c.args.r _ _ _ _ c.requires.trail_fits _ _ e c.args.at.vertex) at c.requires.fits }
+    record { dash_fits = dash_fits c.args.pass c.args.r _ _ _ _ c.requires.trail_fits _ _ e; detail_bound = c.requires.detail_bound; fits = rw (piece_is c.args.pass c.args.r _ _ _ _ c.requires.trail_fits _ _ e c.args.base) at c.requires.fits }
 
 pub returns-then-is_some : goal.returns-then-is_some
 returns-then-is_some c =
@@ -27,4 +27,4 @@ returns-then-is_some c =
 pub returns : goal.returns
 returns c =
     let e = rw (missed c.next_point.result (sym c.is_some.ensures ∙ c.if-is_some.false)) at c.next_point.ensures in
-    dot_draws c.args.pass c.args.r _ _ _ _ c.requires.trail_fits _ e c.args.at.vertex _
+    dot_draws c.args.pass c.args.r _ _ _ _ c.requires.trail_fits _ e c.args.base _

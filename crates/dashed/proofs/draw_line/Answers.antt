@@ -9,11 +9,11 @@ use Rattle.dashed.proofs.draw_line.Goals as goal
 
 pub strip_dash-s-requires : goal.strip_dash-s-requires
 strip_dash-s-requires c =
-    record { dash_fits = c.requires.dash_fits; strip_fits = strip_fits false c.args.pass.stroke c.args.r c.args.at.vertex _ c.requires.fits (fits_numbered c.requires.dash_fits) }
+    record { dash_fits = c.requires.dash_fits; strip_fits = strip_fits false c.args.pass.stroke c.args.r c.args.base _ c.requires.fits (fits_numbered c.requires.dash_fits) }
 
 pub weave_behind-place-requires : goal.weave_behind-place-requires
 weave_behind-place-requires c =
-    record { dash_fits = c.requires.dash_fits; woven_fits = arcs_fit false c.args.pass.stroke c.args.r c.args.at.vertex _ c.requires.fits (fits_numbered c.requires.dash_fits) c.strip_dash-s.ensures.strip c.requires.detail_bound }
+    record { dash_fits = c.requires.dash_fits; woven_fits = arcs_fit false c.args.pass.stroke c.args.r c.args.base _ c.requires.fits (fits_numbered c.requires.dash_fits) c.strip_dash-s.ensures.strip c.requires.detail_bound }
 
 pub returns-then-r-2 : goal.returns-then-r-2
 returns-then-r-2 c =

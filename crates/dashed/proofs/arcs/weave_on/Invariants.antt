@@ -8,8 +8,8 @@ use Rattle.dashed.proofs.arcs.weave_on.Given as goal
 
 abbrev pub invariant-loop-q : goal.invariant-loop-q
 invariant-loop-q l =
-    Weaving l.pass l.r l.p l.first.0 l.ds l.initial.w l.initial.trail (lent l.initial.v l.initial.src l.initial.t) l.w l.trail (lent l.v l.src l.t)
+    Weaving l.pass l.r l.p.coords.now l.p.first.0 l.ds l.initial.w l.initial.trail (lent l.initial.v l.initial.src l.initial.t) l.w l.trail (lent l.v l.src l.t)
     × (length l.v ≡ length l.initial.v) × (length l.src ≡ length l.initial.src) × (length l.t ≡ length l.initial.t)
 
 abbrev pub decreases-loop-q : goal.decreases-loop-q
-decreases-loop-q l = length (trail_points l.pass.stroke.near l.p l.first.0 l.ds l.trail)
+decreases-loop-q l = length (trail_points l.pass.stroke.near l.p.coords.now l.p.first.0 l.ds l.trail)

@@ -6,7 +6,7 @@ use Rattle.dashed.proofs.arcs.weave_one.Goals as goal
 pub pass_points-requires : goal.pass_points-requires
 pass_points-requires c =
     let a = c.args in
-    record { p_bound = c.requires.well_numbered; weave_fits = rw (one_woven a.pass.stroke a.w.leg a.q) c.requires.weave_fits }
+    rw (one_woven a.pass.stroke a.w.leg a.q) c.requires.weave_fits
 
 pub returns : goal.returns
 returns c =

@@ -5,7 +5,7 @@ use Rattle.dashed.proofs.strips.strip_one.Goals as goal
 pub pass_points-requires : goal.pass_points-requires
 pass_points-requires c =
     let a = c.args in
-    record { p_bound = c.requires.well_numbered; strip_fits = rw (one_passed a.pass.stroke a.w.leg a.q) c.requires.strip_fits }
+    rw (one_passed a.pass.stroke a.w.leg a.q) c.requires.strip_fits
 
 pub returns : goal.returns
 returns c =
