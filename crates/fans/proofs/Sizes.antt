@@ -1,5 +1,5 @@
 -- How many vertices and triangles arcs and fans have: as many of each; and what is written one behind the other. Assumes nothing.
-use Prim.Native.Nat.{ℕ, zero, suc, ◌+◌, ◌-◌, ◌*◌, ◌%◌, ◌^◌, ◌≤◌}
+use Prim.Native.Nat.{ℕ, zero, suc, ◌+◌, ◌-◌, ◌^◌, ◌≤◌}
 use mathlib.Core.Path.{◌≡◌, refl}
 use mathlib.Core.Bool.{Bool, true, false, cond}
 use mathlib.Core.List.{List, ◌++◌}
@@ -71,17 +71,6 @@ module _ (k : ℕ) (e : EndpointData) (n p : VertexId) (outward : Point) (i : �
   pub end_even : Even (2 ^ suc k - 1) (end_fan k e n p outward i)
   unfolding end_fan
   end_even = cap_even k _ _ i _ _
-
--- so large a shift is exact
-pub shifted : (k : ℕ) → k ≤ 6 → 1 * 2 ^ k % 2 ^ 64 ≡ 2 ^ k
-shifted zero h = refl
-shifted (suc zero) h = refl
-shifted (suc (suc zero)) h = refl
-shifted (suc (suc (suc zero))) h = refl
-shifted (suc (suc (suc (suc zero)))) h = refl
-shifted (suc (suc (suc (suc (suc zero))))) h = refl
-shifted (suc (suc (suc (suc (suc (suc zero)))))) h = refl
-shifted (suc (suc (suc (suc (suc (suc (suc k))))))) h = absurd (omega arith)
 
 pub few : (k : ℕ) → k ≤ 6 → 2 ^ k ≤ 64
 few zero h = omega arith

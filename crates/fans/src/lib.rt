@@ -3,7 +3,6 @@
 
 ghost use Rattle.std.specs.Prelude.{true, ◌≡◌, ◌+◌, ◌<◌, ◌≤◌};
 ghost use Rattle.endpoint.specs.Endpoint.{id_limit};
-ghost use Rattle.endpoint.specs.declared.Side.TheVariants.{Positive, Negative};
 ghost use Rattle.pieces.specs.Piece.{lent};
 ghost use Rattle.fans.specs.Weft.{WeftFits, WeftPasses};
 ghost use Rattle.fans.specs.Fans.{normal_at, first_normal, last_normal, hub_of, is_pair, is_inner, folds_at, gets_arc, side_weft, cap_end, start_fan, end_fan, arc_size, fan_size};
@@ -11,7 +10,7 @@ ghost use Rattle.fans.specs.Fans.{normal_at, first_normal, last_normal, hub_of, 
 use arc::{End, Hub, lay_arc, lay_cap};
 use endpoint::{EndpointData, InnerJoin, Side, SidePoints, VertexId, source_of, vertex_after};
 use pieces::{Index, Place};
-use plane::vector::{Point, divided, minus};
+use plane::vector::Point;
 use vertices::base::side_points;
 
 // What of a stroke is round, and how deep its arcs go.
@@ -23,40 +22,40 @@ pub struct Round {
 }
 
 // Rule 8's normal of a point beside e.
+#[tactic(auto, unfolding(crate::specs::Fans::normal_at))]
 fn normal_at(e: EndpointData, x: f32, y: f32) -> Point
     ensures { result ≡ normal_at e x y }
 {
-    let p = Point { x: x, y: y };
-    divided(minus(p, e.position), e.half_width)
+    (Point { x, y } - e.position) / e.half_width
 }
 
 // That of a side's first vertex, and of its last.
+#[tactic(auto, unfolding(crate::specs::Fans::first_normal))]
 fn first_normal(e: EndpointData, p: SidePoints) -> Point
     ensures { result ≡ first_normal e p }
 {
     match p {
-        SidePoints::Single(x, y) => normal_at(e, x, y),
-        SidePoints::Pair(x, y, _, _) => normal_at(e, x, y),
+        SidePoints::Single(x, y) | SidePoints::Pair(x, y, _, _) => normal_at(e, x, y),
     }
 }
 
+#[tactic(auto, unfolding(crate::specs::Fans::last_normal))]
 fn last_normal(e: EndpointData, p: SidePoints) -> Point
     ensures { result ≡ last_normal e p }
 {
     match p {
-        SidePoints::Single(x, y) => normal_at(e, x, y),
-        SidePoints::Pair(_, _, x, y) => normal_at(e, x, y),
+        SidePoints::Single(x, y) | SidePoints::Pair(_, _, x, y) => normal_at(e, x, y),
     }
 }
 
 // What the vertices about e share whose arc begins on a side.
+#[tactic(auto, unfolding(crate::specs::Fans::hub_of))]
 fn hub_of(e: EndpointData, side: Side, ahead: Point) -> Hub
     requires { e.id.0 < id_limit }
     ensures { result ≡ hub_of e side ahead }
 {
-    let position = e.position;
     Hub {
-        position,
+        position: e.position,
         half_width: e.half_width,
         advancement: e.advancement,
         source: source_of(e.id, side),
@@ -67,32 +66,7 @@ fn hub_of(e: EndpointData, side: Side, ahead: Point) -> Hub
 fn is_pair(p: SidePoints) -> bool
     ensures { result ≡ is_pair p }
 {
-    match p {
-        SidePoints::Single(_, _) => false,
-        SidePoints::Pair(_, _, _, _) => true,
-    }
-}
-
-fn is_positive_inner(i: InnerJoin) -> bool
-    ensures { result ≡ is_inner Positive i }
-{
-    match i {
-        InnerJoin::Neither => false,
-        InnerJoin::Positive => true,
-        InnerJoin::Negative => false,
-        InnerJoin::Both => true,
-    }
-}
-
-fn is_negative_inner(i: InnerJoin) -> bool
-    ensures { result ≡ is_inner Negative i }
-{
-    match i {
-        InnerJoin::Neither => false,
-        InnerJoin::Positive => false,
-        InnerJoin::Negative => true,
-        InnerJoin::Both => true,
-    }
+    matches!(p, SidePoints::Pair(..))
 }
 
 // Whether a side is an inner join, and whether it is a fold.
@@ -100,8 +74,8 @@ fn is_inner(side: Side, i: InnerJoin) -> bool
     ensures { result ≡ is_inner side i }
 {
     match side {
-        Side::Positive => is_positive_inner(i),
-        Side::Negative => is_negative_inner(i),
+        Side::Positive => matches!(i, InnerJoin::Positive | InnerJoin::Both),
+        Side::Negative => matches!(i, InnerJoin::Negative | InnerJoin::Both),
     }
 }
 
@@ -115,15 +89,11 @@ fn folds_at(e: EndpointData, side: Side) -> bool
 }
 
 // Whether a side gets an arc, where joins are round.
+#[tactic(auto, unfolding(crate::specs::Fans::gets_arc))]
 pub fn gets_arc(round: bool, e: EndpointData, side: Side) -> bool
     ensures { result ≡ gets_arc round e side }
 {
-    let points = side_points(e, side);
-    let inner = e.inner_join;
-    let pair = is_pair(points);
-    let beside = !is_inner(side, inner);
-    let unfolded = !folds_at(e, side);
-    round & pair & beside & unfolded
+    round && is_pair(side_points(e, side)) && !is_inner(side, e.inner_join) && !folds_at(e, side)
 }
 
 // The arc of a side where it gets one, from its first vertex, which has the number first.
@@ -169,7 +139,8 @@ fn cap_end(e: EndpointData, side: Side, vertex: VertexId) -> End
     }
 }
 
-// The fan of a start cap, whose vertices have the numbers n and p: from its negative vertex.
+// The fan of a start cap, whose vertices have the numbers n and p: from its negative vertex. That of an end
+// cap is a function of its own: one for both would be given each side and its vertex twice.
 pub fn lay_start_fan(
     v: &mut [f32],
     src: &mut [u32],
@@ -220,10 +191,7 @@ pub fn arc_size(there: bool, level: u32) -> usize
     requires { level ≤ 6 }
     ensures { result ≡ arc_size there level }
 {
-    if there {
-        return (1 << level) - 1;
-    }
-    0
+    if there { (1 << level) - 1 } else { 0 }
 }
 
 pub fn fan_size(there: bool, level: u32) -> usize
@@ -231,7 +199,8 @@ pub fn fan_size(there: bool, level: u32) -> usize
     ensures { result ≡ fan_size there level }
 {
     if there {
-        return 2 * arc_size(true, level) + 1;
+        2 * arc_size(true, level) + 1
+    } else {
+        0
     }
-    0
 }

@@ -1,4 +1,5 @@
-// The window lent and altered where it stands: each call is the one by value on what it holds.
+// The window lent and altered where it stands: each call is the one by value on what it holds. Both forms are
+// public (README.md), and document 01 asks for both.
 ghost use Rattle.std.specs.Prelude.{◌≡◌, [], ◌∷◌, ◌++◌};
 ghost use Rattle.window.specs.Window.{items, last_three, ReplacesLast};
 

@@ -2,12 +2,6 @@
 use Rattle.fans.specs.Fans.{end_fan}
 use Rattle.fans.proofs.lay_end_fan.Goals as goal
 
-pub hub_of-hub-requires : goal.hub_of-hub-requires
-hub_of-hub-requires c = c.requires.id_lt_id_limit
-
-pub source_of-source-requires : goal.source_of-source-requires
-source_of-source-requires c = c.requires.id_lt_id_limit
-
 pub lay_cap-requires : goal.lay_cap-requires
 unfolding end_fan
 lay_cap-requires c = rw (c.cap_end-b.ensures, c.cap_end-a.ensures, c.source_of-source.ensures, c.hub_of-hub.ensures) c.requires.weft_fits

@@ -4,12 +4,6 @@ use Rattle.pieces.proofs.Pieces.{puts_none}
 use Rattle.fans.specs.Fans.{side_weft}
 use Rattle.fans.proofs.lay_side.Goals as goal
 
-pub vertex_after-requires : goal.vertex_after-requires
-vertex_after-requires c = c.requires.first_bound.0
-
-pub hub_of-hub-requires : goal.hub_of-hub-requires
-hub_of-hub-requires c = c.requires.first_bound.1
-
 pub lay_arc-requires : goal.lay_arc-requires
 unfolding side_weft
 lay_arc-requires c =
