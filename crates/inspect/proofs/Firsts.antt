@@ -1,13 +1,16 @@
 -- Laws of `first` and `some`. Assumes nothing.
 use Prim.Native.Nat.{ℕ, zero, suc, ◌+◌, ◌-◌, ◌≤◌, ◌<◌}
 use mathlib.Core.Path.{◌≡◌, refl, ap, sym, ◌∙◌}
-use mathlib.Core.Bool.{Bool, true, false, cond}
+use mathlib.Core.Bool.{Bool, true, false, not, cond}
+use borrow.Author.Tests.{lt-ltb, le-ltb, ltb-true, ltb-false}
+use lib.Dec.{ltb}
 use native.Mathlib.Omega.{arith}
 use native.Mathlib.Decide.{dec_le}
 use native.Mathlib.Numerals.{add-one}
-use Rattle.std.specs.Prelude.{Option, MatchOption, find}
+use Rattle.std.specs.Prelude.{Option, MatchOption, position}
 use Rattle.std.specs.Prelude as std
-use Rattle.std.specs.List.{range_with_len}
+use Rattle.std.specs.List.{position_or_len, range_with_len}
+use Rattle.std.proofs.lemmas.List.FromFn.{length-range_with_len}
 use Rattle.inspect.specs.First.{first, some}
 
 -- the test is false of every number below n
@@ -16,12 +19,6 @@ Clear test n = (k : ℕ) → k < n → test k ≡ false
 
 pub clear_none : (test : ℕ → Bool) → Clear test 0
 clear_none test k h = absurd (omega arith)
-
-pub clear_more : (test : ℕ → Bool) (i : ℕ) → Clear test i → test i ≡ false → Clear test (i + 1)
-clear_more test i before e k h = go (dec_le i k) where
-  go : Dec (i ≤ k) → test k ≡ false
-  go (yes l) = let n : k ≡ i = omega arith in rw n e
-  go (no l) = before k (omega arith)
 
 -- ---- where a search ends
 pub first_found : (test : ℕ → Bool) (n i : ℕ) → i < n → Clear test i → test i ≡ true → i ≡ first test n
@@ -35,9 +32,6 @@ pub first_none : (test : ℕ → Bool) (n : ℕ) → Clear test n → n ≡ firs
 unfolding first
 first_none test zero before = refl
 first_none test (suc n) before = rw (before 0 (omega arith)) (ap suc (first_none (λ k. test (suc k)) n (λ k l. before (suc k) (omega arith))))
-
-pub first_end : (test : ℕ → Bool) (n i : ℕ) → i ≤ n → n ≤ i → Clear test i → i ≡ first test n
-first_end test n i low high before = let e : i ≡ n = omega arith in rw e (first_none test n (λ k l. before k (omega arith)))
 
 -- ---- what the end of a search tells
 pub first_clear : (test : ℕ → Bool) (n : ℕ) → Clear test (first test n)
@@ -58,53 +52,48 @@ first_at test (suc n) h = go (test 0) refl h (λ l. first_at (λ k. test (suc k)
   go true e h later = e
   go false e h later = later (omega arith)
 
--- ---- std's searches: their result is `first`'s, where that is below the bound
-abbrev pub Place : (ℕ → Bool) → ℕ → Option ℕ → Type 0
-Place test n r = MatchOption r (n ≤ first test n) (λ k. (k ≡ first test n) × (k < n))
+-- `first` looks at a test only below its bound
+pub first_same : (p q : ℕ → Bool) (n : ℕ) → ((k : ℕ) → k < n → p k ≡ q k) → first p n ≡ first q n
+unfolding first
+first_same p q zero same = refl
+first_same p q (suc n) same = rw (same 0 (omega arith), first_same (λ k. p (suc k)) (λ k. q (suc k)) n (λ k l. same (suc k) (omega arith)))
 
-module _ (test : ℕ → Bool) where
-  where_from : (i n : ℕ) (r : Option ℕ) → Clear test i → r ≡ find test (range_with_len i n) → MatchOption r (Clear test (i + n)) (λ k. (k < i + n) × (Clear test k × (test k ≡ true)))
-  where_from i zero r before e = let z : i + 0 ≡ i = omega arith in rw (e, z) before
-  where_from i (suc n) r before e = go (test i) refl e (λ f. where_from (i + 1) n r (clear_more test i before f))
-    where
-      Found : ℕ → Type 0
-      Found m = MatchOption r (Clear test m) (λ k. (k < m) × (Clear test k × (test k ≡ true)))
+-- ---- what std's search answers: that number, where there is one
+abbrev pub place : (ℕ → Bool) → ℕ → Option ℕ
+place test n = cond (ltb (first test n) n) (std.Some (first test n)) std.None
 
-      go : (b : Bool) → test i ≡ b → r ≡ cond b (std.Some i) (find test (range_with_len (i + 1) n)) → (test i ≡ false → r ≡ find test (range_with_len (i + 1) n) → Found (i + 1 + n)) → Found (i + suc n)
-      go true f e later = rw e (omega arith, (before, f))
-      go false f e later = let m : i + 1 + n ≡ i + suc n = omega arith in rw m at (later f e)
+pub place_tells : (test : ℕ → Bool) (n : ℕ) (r : Option ℕ) → r ≡ place test n → MatchOption r (n ≤ first test n) (λ k. (k ≡ first test n) × (k < n))
+place_tells test n r e = go (ltb (first test n) n) (ltb-true (first test n) n) (ltb-false (first test n) n) e where
+  go : (b : Bool) → (b ≡ true → first test n < n) → (b ≡ false → n ≤ first test n) → r ≡ cond b (std.Some (first test n)) std.None → MatchOption r (n ≤ first test n) (λ k. (k ≡ first test n) × (k < n))
+  go true t f e = rw e (refl, t refl)
+  go false t f e = rw e (f refl)
 
-  pub find_place : (n : ℕ) (r : Option ℕ) → r ≡ find test (range_with_len 0 n) → Place test n r
-  find_place n r e = go r (where_from 0 n r (clear_none test) e) where
-    z : 0 + n ≡ n
-    z = omega arith
+pub place_found : (test : ℕ → Bool) (n k : ℕ) → k ≡ first test n → k < n → std.Some k ≡ place test n
+place_found test n k e l = rw (← e, lt-ltb k n l)
 
-    go : (r : Option ℕ) → MatchOption r (Clear test (0 + n)) (λ k. (k < 0 + n) × (Clear test k × (test k ≡ true))) → Place test n r
-    go std.None h = let e : n ≡ first test n = first_none test n (rw z at h) in omega arith
-    go (std.Some k) h = let l : k < n = omega (arith, h.0) in (first_found test n k l h.1.0 h.1.1, l)
+pub place_none : (test : ℕ → Bool) (n : ℕ) → Clear test n → std.None ≡ place test n
+place_none test n c = let e : n ≡ first test n = first_none test n c in rw (← e, le-ltb n n (omega arith))
 
-  -- and the other way round
-  pub find_first : (n m : ℕ) → m ≡ first test n → m < n → std.Some m ≡ find test (range_with_len 0 n)
-  find_first n m e l = go (find test (range_with_len 0 n)) (find_place n (find test (range_with_len 0 n)) refl) where
-    go : (r : Option ℕ) → Place test n r → std.Some m ≡ r
-    go std.None h = absurd (omega arith)
-    go (std.Some k) h = ap (λ (j : ℕ). std.Some j) (e ∙ sym h.0)
+-- of the numbers below n
+first_from : (test : ℕ → Bool) (i n : ℕ) → first (λ k. test (i + k)) n ≡ position_or_len test (range_with_len i n)
+unfolding first
+first_from test i zero = refl
+first_from test i (suc n) =
+    let z : i + 0 ≡ i = omega arith in
+    let s : first (λ k. test (i + suc k)) n ≡ first (λ k. test (i + 1 + k)) n = first_same (λ k. test (i + suc k)) (λ k. test (i + 1 + k)) n (λ k l. let m : i + suc k ≡ i + 1 + k = omega arith in rw m) in
+    rw (z, s, first_from test (i + 1) n) (go (test i) (position_or_len test (range_with_len (i + 1) n)))
+  where
+    go : (b : Bool) (m : ℕ) → cond b 0 (suc m) ≡ cond (not b) (1 + m) 0
+    go true m = refl
+    go false m = omega arith
 
-  pub find_none : (n : ℕ) → Clear test n → std.None ≡ find test (range_with_len 0 n)
-  find_none n c = go (find test (range_with_len 0 n)) (find_place n (find test (range_with_len 0 n)) refl) where
-    end : n ≡ first test n
-    end = first_none test n c
+pub range_place : (test : ℕ → Bool) (n : ℕ) → position test (range_with_len 0 n) ≡ place test n
+range_place test n =
+    let e : first test n ≡ position_or_len test (range_with_len 0 n) =
+    first_same test (λ k. test (0 + k)) n (λ k l. let z : 0 + k ≡ k = omega arith in rw z) ∙ first_from test 0 n in
+    rw (← e, length-range_with_len)
 
-    go : (r : Option ℕ) → Place test n r → std.None ≡ r
-    go std.None h = refl
-    go (std.Some k) h = absurd (omega (arith, end, h.0, h.1))
-
--- a search looks at a test only at its numbers
-pub find_same : (p q : ℕ → Bool) (i n : ℕ) → ((k : ℕ) → k < i + n → p k ≡ q k) → find p (range_with_len i n) ≡ find q (range_with_len i n)
-find_same p q i zero same = refl
-find_same p q i (suc n) same = rw (same i (omega arith), find_same p q (i + 1) n (λ k l. same k (omega arith)))
-
--- ---- a search in parts: none before `base`, and then std's search of the n from there on
+-- ---- a search in parts: none before `base`, and then the search of the n from there on
 module _ (test : ℕ → Bool) (base n : ℕ) (before : Clear test base) where
   in_part : (k : ℕ) → k ≡ first (λ j. test (base + j)) n → Clear test (base + k)
   in_part k e j l = go (dec_le base j) where
@@ -112,17 +101,17 @@ module _ (test : ℕ → Bool) (base n : ℕ) (before : Clear test base) where
     go (yes g) = let m : j ≡ base + (j - base) = omega arith in rw m (first_clear (λ j. test (base + j)) n (j - base) (omega arith))
     go (no g) = before j (omega arith)
 
-  pub clear_part : std.None ≡ find (λ j. test (base + j)) (range_with_len 0 n) → Clear test (base + n)
+  pub clear_part : std.None ≡ position (λ j. test (base + j)) (range_with_len 0 n) → Clear test (base + n)
   clear_part e j l =
-      let h : n ≤ first (λ j. test (base + j)) n = find_place (λ j. test (base + j)) n std.None e in
+      let h : n ≤ first (λ j. test (base + j)) n = place_tells (λ j. test (base + j)) n std.None (e ∙ range_place (λ j. test (base + j)) n) in
       in_part (first (λ j. test (base + j)) n) refl j (omega arith)
 
-  pub first_part : (k count : ℕ) → base + n ≤ count → std.Some k ≡ find (λ j. test (base + j)) (range_with_len 0 n) → (k < n) × (std.Some (base + k) ≡ find test (range_with_len 0 count))
+  pub first_part : (k count : ℕ) → base + n ≤ count → std.Some k ≡ position (λ j. test (base + j)) (range_with_len 0 n) → (k < n) × (std.Some (base + k) ≡ position test (range_with_len 0 count))
   first_part k count high e =
-      let h = find_place (λ j. test (base + j)) n (std.Some k) e in
+      let h = place_tells (λ j. test (base + j)) n (std.Some k) (e ∙ range_place (λ j. test (base + j)) n) in
       let l : base + k < count = omega (arith, h.1) in
       let at : test (base + k) ≡ true = rw h.0 (first_at (λ j. test (base + j)) n (rw h.0 at h.1)) in
-      (h.1, find_first test count (base + k) (first_found test count (base + k) l (in_part k h.0) at) l)
+      (h.1, place_found test count (base + k) (first_found test count (base + k) l (in_part k h.0) at) l ∙ sym (range_place test count))
 
 -- ---- `some`
 pub some_more : (test : ℕ → Bool) (n : ℕ) → some test (n + 1) ≡ cond (test n) true (some test n)

@@ -6,8 +6,8 @@ use mathlib.Core.List.{List}
 use native.Mathlib.Omega.{arith}
 use lib.Dec.{leb, ltb, eqb}
 use lib.ListN.{length}
-use borrow.Author.Tests.{eq-eqb, ne_eqb, lt-ltb, le-ltb, eqb-true, ltb-true, ltb-false}
-use Rattle.std.specs.Prelude.{Option, Some, None, position}
+use borrow.Author.Tests.{eq-eqb, ne_eqb, lt-ltb, le-ltb, eqb-true, ltb-false}
+use Rattle.std.specs.Prelude.{position}
 use Rattle.std.specs.List.{position_or_len}
 use Rattle.std.proofs.lemmas.List.Recursion.{is_position_or_len}
 use Rattle.refusals.specs.Numbers.{Meaning, number_of, verdict, list_length, number_too_large, two_alike, vertex_unnamed}
@@ -19,7 +19,7 @@ use Rattle.inspect.specs.Faults.{triangle_count, triangle_at, too_large, alike, 
 use Rattle.inspect.specs.First.{first, some}
 use Rattle.inspect.specs.declared.answer.Fault.{Fault}
 use Rattle.inspect.specs.declared.answer.Fault.TheVariants.{Length, TooLarge, Alike, Unnamed, NotAttached}
-use Rattle.inspect.proofs.Firsts.{Clear, Place, first_none, first_clear, some_at, some_clear}
+use Rattle.inspect.proofs.Firsts.{Clear, place, first_none, first_clear, some_at, some_clear}
 
 -- ---- one test: it found its place, or none
 module _ (fault : Meaning) (test : ℕ → Bool) (n : ℕ) where
@@ -125,24 +125,14 @@ module _ (count : ℕ) (l : List ℕ) where
   pub sound_then : (next r : Verdict) → r ≡ faults_then count l sound → r.number ≡ 0 → next ≡ faults_then count l next
   sound_then next r e z = sym (passed_on next (has_passed sound (sym (ap (λ (v : Verdict). v.number) e) ∙ z)))
 
-first_is_position : (count : ℕ) (l : List ℕ) → first (too_large count l) (length l) ≡ position_or_len (leb count) l
-unfolding first too_large
-first_is_position count l = is_position_or_len (λ l. first (too_large count l) (length l)) (leb count) refl
-    (λ x xs. let e : suc (first (too_large count xs) (length xs)) ≡ 1 + first (too_large count xs) (length xs) = omega arith in ap (λ (n : ℕ). cond (leb count x) 0 n) e) l
-
 -- ---- the first number that is too large, as std finds it
-pub large_place : (count : ℕ) (l : List ℕ) (r : Option ℕ) → r ≡ position (leb count) l → Place (too_large count l) (length l) r
-large_place count l r e = go (ltb at (length l)) (ltb-true at (length l)) (ltb-false at (length l)) (rw (← same) at e)
+pub large_place : (count : ℕ) (l : List ℕ) → position (leb count) l ≡ place (too_large count l) (length l)
+unfolding first too_large
+large_place count l = rw same
   where
-    at : ℕ
-    at = first (too_large count l) (length l)
-
-    same : at ≡ position_or_len (leb count) l
-    same = first_is_position count l
-
-    go : (b : Bool) → (b ≡ true → at < length l) → (b ≡ false → length l ≤ at) → r ≡ cond b (Some at) None → Place (too_large count l) (length l) r
-    go true t f e = rw e (refl, t refl)
-    go false t f e = rw e (f refl)
+    same : position_or_len (leb count) l ≡ first (too_large count l) (length l)
+    same = sym (is_position_or_len (λ l. first (too_large count l) (length l)) (leb count) refl
+        (λ x xs. let e : suc (first (too_large count xs) (length xs)) ≡ 1 + first (too_large count xs) (length xs) = omega arith in ap (λ (n : ℕ). cond (leb count x) 0 n) e) l)
 
 -- ---- what the code's test says of two triangles
 pub is_touching : (l : List ℕ) (t s : ℕ) (u e : Tri) (r : ℕ) → e ≡ triangle_at l s → u ≡ triangle_at l t → r ≡ shared e u → r ≡ 2 → touches l t s ≡ true

@@ -13,12 +13,12 @@ use lib.ListN.{length, get_or, set, length-set, replicate, length-replicate, get
 use lib.Pow.{pow-add, pow-lt, shl-shr, shl_exact}
 use lib.Seq.{get_or-set_same, get_or-set_other}
 use borrow.Author.Tests.{eq-eqb, ne_eqb, eqb-true, eqb-false}
-use Rattle.std.specs.Prelude.{find}
+use Rattle.std.specs.Prelude.{position}
 use Rattle.std.specs.List.{range_with_len}
 use Rattle.inspect.specs.Faults.{names, unnamed}
 use Rattle.inspect.specs.First.{some}
 use Rattle.inspect.specs.Marks.{marked, blank, MarkedOne, Marked, unnamed_from}
-use Rattle.inspect.proofs.Firsts.{some_more, find_same}
+use Rattle.inspect.proofs.Firsts.{some_more, first_same, range_place}
 
 -- ---- one bit of a word
 own_bit : (r : ℕ) → 2 ^ r / 2 ^ r % 2 ≡ 1
@@ -103,9 +103,9 @@ pub marked_all : (base : ℕ) (l : List ℕ) (i : ℕ) (m₀ m : List ℕ) → i
 marked_all base l i m₀ m low high so = let e : length l ≡ i = omega arith in rw e so
 
 -- where no mark was there, one is missing exactly where the vertex is unnamed
-pub blank_is : (base : ℕ) (l : List ℕ) (w : ℕ) (m : List ℕ) (n : ℕ) → n ≤ 32 * w → Marked base l (length l) (replicate w 0) m → find (blank m) (range_with_len 0 n) ≡ find (unnamed_from base l) (range_with_len 0 n)
+pub blank_is : (base : ℕ) (l : List ℕ) (w : ℕ) (m : List ℕ) (n : ℕ) → n ≤ 32 * w → Marked base l (length l) (replicate w 0) m → position (blank m) (range_with_len 0 n) ≡ position (unnamed_from base l) (range_with_len 0 n)
 unfolding marked unnamed
-blank_is base l w m n h so = find_same (blank m) (unnamed_from base l) 0 n (λ k g. at k (omega arith)) where
+blank_is base l w m n h so = rw (range_place (blank m) n, range_place (unnamed_from base l) n, first_same (blank m) (unnamed_from base l) n (λ k g. at k (omega arith))) where
   none : (k : ℕ) → k < 32 * w → marked (replicate w 0) k ≡ false
   none k g = rw (get_or-replicate {A = ℕ} w (k / 32) 0 0 (omega arith), zero-div (2 ^ (k % 32)))
 

@@ -1,5 +1,5 @@
 // Refusal 24: whether each triangle but the first has two vertices of an earlier one.
-ghost use Rattle.std.specs.Prelude.{◌≡◌, ◌/◌, ◌<◌, find, length};
+ghost use Rattle.std.specs.Prelude.{◌≡◌, ◌/◌, ◌<◌, length, position};
 ghost use Rattle.std.specs.List.{range_with_len};
 ghost use Rattle.inspect.specs.Faults.{loose};
 
@@ -7,9 +7,9 @@ use crate::three::{shared, triangle_at};
 
 // The first triangle that no earlier one holds.
 pub(crate) fn first_loose(list: &[u32]) -> Option<usize>
-    ensures { result ≡ find (loose list.now) (range_with_len 0 (length list.now / 3)) }
+    ensures { result ≡ position (loose list.now) (range_with_len 0 (length list.now / 3)) }
 {
-    (0..list.len() / 3).find(|t| is_loose(list, *t))
+    (0..list.len() / 3).position(|t| is_loose(list, t))
 }
 
 // The latest triangle is asked first: in a mesh of this library it is the one.

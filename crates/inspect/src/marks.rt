@@ -1,5 +1,5 @@
 // Marks of vertices, 32 to a word.
-ghost use Rattle.std.specs.Prelude.{◌≡◌, ◌*◌, ◌≤◌, ◌<◌, find, length};
+ghost use Rattle.std.specs.Prelude.{◌≡◌, ◌*◌, ◌≤◌, ◌<◌, length, position};
 ghost use Rattle.std.specs.List.{range_with_len};
 ghost use Rattle.inspect.specs.Marks.{MarkedOne, blank};
 
@@ -30,9 +30,9 @@ pub(crate) fn mark_one(base: usize, x: usize, marks: &mut [u32])
 // The first of n marks that is not there.
 pub(crate) fn first_blank(marks: &[u32], n: usize) -> Option<usize>
     requires { n ≤ 32 * length marks.now }
-    ensures { result ≡ find (blank marks.now) (range_with_len 0 n) }
+    ensures { result ≡ position (blank marks.now) (range_with_len 0 n) }
 {
-    (0..n).find(|i| is_blank(marks, *i))
+    (0..n).position(|i| is_blank(marks, i))
 }
 
 #[tactic(auto, using(crate::proofs::Marking::is_blank_lem))]

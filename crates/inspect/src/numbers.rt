@@ -1,5 +1,5 @@
 // Refusals 21 and 22: the numbers one by one, and triangle by triangle.
-ghost use Rattle.std.specs.Prelude.{◌≡◌, ◌/◌, ◌<◌, find, leb, length, position};
+ghost use Rattle.std.specs.Prelude.{◌≡◌, ◌/◌, ◌<◌, leb, length, position};
 ghost use Rattle.std.specs.List.{range_with_len};
 ghost use Rattle.inspect.specs.Faults.{alike};
 
@@ -14,9 +14,9 @@ pub(crate) fn first_large(count: usize, list: &[u32]) -> Option<usize>
 
 // The first triangle that names a vertex twice.
 pub(crate) fn first_alike(list: &[u32]) -> Option<usize>
-    ensures { result ≡ find (alike list.now) (range_with_len 0 (length list.now / 3)) }
+    ensures { result ≡ position (alike list.now) (range_with_len 0 (length list.now / 3)) }
 {
-    (0..list.len() / 3).find(|t| is_alike(list, *t))
+    (0..list.len() / 3).position(|t| is_alike(list, t))
 }
 
 #[tactic(auto, unfolding(crate::specs::Faults::alike))]

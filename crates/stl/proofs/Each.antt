@@ -89,9 +89,6 @@ pub record Row {A B : Type 0} (f : ℕ → A) (spell : A → List B) (m n : ℕ)
   pub content : over (flat spell (each f 0 n)) x0 ≡ take (m * k) x ++ over (flat spell (each f k (n - k))) (drop (m * k) x)
 
 module _ {A B : Type 0} (f : ℕ → A) (spell : A → List B) (m n : ℕ) (x0 : List B) (room : m * n ≤ length x0) where
-  pub row_none : Row f spell m n x0 x0 0
-  row_none = let e : n ≡ n - 0 = omega arith in let z : m * 0 ≡ 0 = omega arith in record { same = refl; content = rw z (ap (λ (j : ℕ). over (flat spell (each f 0 j)) x0) e) }
-
   ahead : (k : ℕ) → k < n → flat spell (each f k (n - k)) ≡ spell (f k) ++ flat spell (each f (k + 1) (n - (k + 1)))
   unfolding each flat
   ahead k h = let e : n - k ≡ suc (n - (k + 1)) = omega arith in rw e

@@ -1,9 +1,7 @@
 -- What a fine triangle has: vertices that are there, and finite corners. Assumes nothing.
-use Prim.Native.Nat.{ℕ, ◌+◌, ◌*◌, ◌/◌, ◌≤◌, ◌<◌}
-use mathlib.Core.Path.{◌≡◌}
+use Prim.Native.Nat.{ℕ, ◌+◌, ◌*◌, ◌/◌, ◌<◌}
 use mathlib.Core.Bool.{Bool, true, false, ◌&&◌}
 use mathlib.Core.List.{List}
-use borrow.Author.Tests.{lt-ltb, le-ltb}
 use lib.Dec.{T, ltb, ltb→lt}
 use lib.Ieee.{Float}
 use lib.ListN.{length, get_or}
@@ -50,13 +48,3 @@ corners_finite f h =
     let a = both (finite_corner f.a && finite_corner f.b) (finite_corner f.c) h in
     let b = both (finite_corner f.a) (finite_corner f.b) a.0 in
     (b.0, b.1, a.1)
-
--- the test of a vertex
-module _ (v : List Float) (i : ℕ) where
-  pub vertex_there : i < length v / 5 → (r : Bool) → r ≡ finite_corner (corner_of v i) → r ≡ fine_vertex v i
-  unfolding fine_vertex
-  vertex_there h r e = rw (lt-ltb i (length v / 5) h) e
-
-  pub no_vertex : length v / 5 ≤ i → false ≡ fine_vertex v i
-  unfolding fine_vertex
-  no_vertex h = rw (le-ltb i (length v / 5) h)

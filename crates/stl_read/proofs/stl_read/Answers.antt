@@ -1,7 +1,6 @@
 -- `stl_read::stl_read` meets its contract. Assumes nothing.
 use mathlib.Core.Path.{refl, sym, ◌∙◌}
 use native.Mathlib.Nat.{le_of_eq}
-use native.Mathlib.Omega.{arith}
 use Rattle.std.specs.Prelude.{None, Some}
 use Rattle.stl.specs.Read.{fine_facet}
 use Rattle.stl.proofs.Each.{first_where, all_fine}
