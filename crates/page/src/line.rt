@@ -1,4 +1,4 @@
-// The lines of a page, each put at a place of it. 64 bytes are room for any.
+// The lines of a page, each put at a place of it. 64 bytes are room for any. That there are so many is no type's invariant: each writer also says how far it goes.
 ghost use Rattle.std.specs.Prelude.{[], ◌∷◌, ◌+◌, ◌≤◌, ◌<◌};
 ghost use Rattle.lines.specs.Digits.{decimal_of};
 ghost use Rattle.lines.specs.Floats.{float_hex};
