@@ -11,56 +11,53 @@ use Rattle.lines.specs.Bytes.{pairs_of, is_dash, are_pairs, is_held, bytes_in, b
 use Rattle.lines.specs.Digits.{digit_of, are_digits, spelt, glyph_of, digits_of, places_up_to, decimal_of, hex_of}
 use Rattle.lines.specs.Floats.{float_by, float_of, float_hex}
 use Rattle.lines.specs.Numbers.{number_of}
-use Rattle.lines.specs.Words.{up_to_space, word_at, rest_at}
-use Rattle.lines.specs.declared.byte_lists.Bytes.TheVariants as count
-use Rattle.lines.specs.declared.floats.Float.TheVariants as float
-use Rattle.lines.specs.declared.numbers.Number.TheVariants as number
-use Rattle.lines.specs.declared.words.Place.TheVariants.{At, End, Lost}
+use Rattle.lines.specs.Words.{up_to_space, word_at, rest_at, lost}
+use Rattle.std.proofs.Common.{Some, None, Ok, Err}
 
 bytes : String → List ℕ
 bytes none = []
 bytes (c then s) = code c ∷ bytes s
 
-words : (word_at (bytes "root 3F800000") (At 0) ≡ bytes "root")
-    × (rest_at (bytes "root 3F800000") (At 0) ≡ At 5)
-    × (word_at (bytes "root 3F800000") (At 5) ≡ bytes "3F800000")
-    × (rest_at (bytes "root 3F800000") (At 5) ≡ End)
-    × (rest_at (bytes "root  3F800000") (At 5) ≡ Lost)
-    × (rest_at (bytes "root ") (At 5) ≡ Lost)
-    × (rest_at (bytes " root") (At 0) ≡ Lost)
-    × (rest_at [] (At 0) ≡ Lost)
+words : (word_at (bytes "root 3F800000") (Some 0) ≡ bytes "root")
+    × (rest_at (bytes "root 3F800000") (Some 0) ≡ Ok (Some 5))
+    × (word_at (bytes "root 3F800000") (Some 5) ≡ bytes "3F800000")
+    × (rest_at (bytes "root 3F800000") (Some 5) ≡ Ok None)
+    × (rest_at (bytes "root  3F800000") (Some 5) ≡ Err lost)
+    × (rest_at (bytes "root ") (Some 5) ≡ Err lost)
+    × (rest_at (bytes " root") (Some 0) ≡ Err lost)
+    × (rest_at [] (Some 0) ≡ Err lost)
 unfolding bytes up_to_space word_at rest_at
 words = (refl, refl, refl, refl, refl, refl, refl, refl)
 
-numbers : (number_of (bytes "0") ≡ number.Value 0)
-    × (number_of (bytes "0000000012") ≡ number.Value 12)
-    × (number_of (bytes "9999999999") ≡ number.Value 9999999999)
-    × (number_of (bytes "00000000012") ≡ number.Bad)
-    × (number_of [] ≡ number.Bad)
-    × (number_of (bytes "1A") ≡ number.Bad)
-    × (number_of (bytes "-1") ≡ number.Bad)
+numbers : (number_of (bytes "0") ≡ Some 0)
+    × (number_of (bytes "0000000012") ≡ Some 12)
+    × (number_of (bytes "9999999999") ≡ Some 9999999999)
+    × (number_of (bytes "00000000012") ≡ None)
+    × (number_of [] ≡ None)
+    × (number_of (bytes "1A") ≡ None)
+    × (number_of (bytes "-1") ≡ None)
 unfolding bytes digit_of are_digits spelt number_of
 numbers = (refl, refl, refl, refl, refl, refl, refl)
 
-floats : (float_of (bytes "3FC00000") ≡ float.Value (fin false 3 (negsuc 0)))
-    × (float_of (bytes "80000000") ≡ float.Value (fin true 0 (pos 0)))
-    × (float_of (bytes "FF800000") ≡ float.Value (inf true))
-    × (float_of (bytes "7FC00000") ≡ float.Value nan)
-    × (float_of (bytes "7FC00001") ≡ float.Bad)
-    × (float_of (bytes "FFC00000") ≡ float.Bad)
-    × (float_of (bytes "3fc00000") ≡ float.Bad)
-    × (float_of (bytes "3FC0000") ≡ float.Bad)
+floats : (float_of (bytes "3FC00000") ≡ Some (fin false 3 (negsuc 0)))
+    × (float_of (bytes "80000000") ≡ Some (fin true 0 (pos 0)))
+    × (float_of (bytes "FF800000") ≡ Some (inf true))
+    × (float_of (bytes "7FC00000") ≡ Some nan)
+    × (float_of (bytes "7FC00001") ≡ None)
+    × (float_of (bytes "FFC00000") ≡ None)
+    × (float_of (bytes "3fc00000") ≡ None)
+    × (float_of (bytes "3FC0000") ≡ None)
 unfolding bytes digit_of are_digits spelt float_by float_of of_bits nan_bits
 floats = (refl, refl, refl, refl, refl, refl, refl, refl)
 
-lists : (bytes_of 3 (bytes "0001FF") ≡ count.Count 3)
+lists : (bytes_of 3 (bytes "0001FF") ≡ Some 3)
     × (bytes_in 3 (bytes "0001FF") ≡ 0 ∷ 1 ∷ 255 ∷ [])
-    × (bytes_of 0 (bytes "-") ≡ count.Count 0)
-    × (bytes_of 2 (bytes "0001FF") ≡ count.Bad)
-    × (bytes_of 3 (bytes "0001F") ≡ count.Bad)
-    × (bytes_of 3 (bytes "0001ff") ≡ count.Bad)
-    × (bytes_of 3 (bytes "--") ≡ count.Bad)
-    × (bytes_of 3 [] ≡ count.Bad)
+    × (bytes_of 0 (bytes "-") ≡ Some 0)
+    × (bytes_of 2 (bytes "0001FF") ≡ None)
+    × (bytes_of 3 (bytes "0001F") ≡ None)
+    × (bytes_of 3 (bytes "0001ff") ≡ None)
+    × (bytes_of 3 (bytes "--") ≡ None)
+    × (bytes_of 3 [] ≡ None)
     × (bytes_in 3 (bytes "0001F") ≡ [])
 unfolding bytes digit_of are_digits pairs_of is_dash are_pairs is_held bytes_in bytes_of
 lists = (refl, refl, refl, refl, refl, refl, refl, refl, refl)

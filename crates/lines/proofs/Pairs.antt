@@ -1,34 +1,36 @@
 -- Laws of a byte list: its pairs of digits are looked at, and then put from the front. Assumes nothing.
-use Prim.Native.Nat.{ℕ, zero, suc, ◌+◌, ◌*◌, ◌/◌, ◌%◌, ◌≤◌, ◌<◌}
-use mathlib.Core.Path.{◌≡◌, refl, sym, ◌∙◌}
+use Prim.Native.Nat.{ℕ, zero, suc, ◌+◌, ◌-◌, ◌*◌, ◌/◌, ◌%◌, ◌≤◌, ◌<◌}
+use mathlib.Core.Path.{◌≡◌, refl, sym, ap, ◌∙◌}
 use mathlib.Core.Bool.{Bool, true, false, ◌&&◌, ◌||◌, false≢true}
 use mathlib.Core.List.{List, [], ◌∷◌, ◌++◌}
 use native.Mathlib.Omega.{arith}
 use native.Mathlib.Numerals.{add-one}
 use lib.Dec.{eqb, leb, ltb}
-use lib.ListN.{length, take, drop, get_or, set, length-set, drop_of_length-le}
+use lib.ListN.{length, take, drop, get_or, set, length-set}
 use lib.Seq.{drop-cons, take-suc, take_all, length-take-le}
-use borrow.Author.Tests.{lt-ltb, le-ltb, le-leb, lt-leb, ltb-true, leb-true, eqb-true}
+use borrow.Author.Tests.{lt-ltb, le-ltb, le-leb, lt-leb, ltb-true, leb-true, eqb-true, ne_eqb}
 use Rattle.lines.specs.Bytes.{pairs_of, is_dash, are_pairs, is_held, bytes_in, pick_bytes, bytes_of}
 use Rattle.lines.specs.Digits.{digit_of, are_digits}
-use Rattle.lines.specs.declared.byte_lists.Bytes.TheVariants.{Count, Bad}
+use lib.Pointwise.{pointwise}
+use Rattle.std.proofs.Common.{Some, None, Option, ok_or, IfOk, MatchOption, is_some, nat_eq, nat_lt}
+use Rattle.std.specs.List.{list_all}
+use Rattle.lines.specs.Digits.{spelt}
+use Rattle.lines.specs.Numbers.{spelt_in}
+use Rattle.lines.specs.Words.{lost}
 use Rattle.lists.specs.Over.{over}
 use Rattle.lists.proofs.Laws.{over_next}
 
 -- ---- digits, one by one
 
-module _ (base : ℕ) (w : List ℕ) (i : ℕ) (h : i < length w) where
-  pub digits_go : digit_of (get_or w i 0) < base → are_digits base (drop i w) ≡ are_digits base (drop (i + 1) w)
-  unfolding are_digits
-  digits_go k = rw (add-one, drop-cons w i 0 h, lt-ltb (digit_of (get_or w i 0)) base k)
+-- what a byte reads as tells whether it is a digit
+pub digit_told : (base d : ℕ) (o : Option ℕ) → MatchOption o (base ≤ d) (λ n. (n ≡ d) × (n < base)) → is_some o ≡ nat_lt d base
+digit_told base d None h = sym (le-ltb d base h)
+digit_told base d (Some n) h = sym (lt-ltb d base (omega arith))
 
-  pub digits_stop : base ≤ digit_of (get_or w i 0) → are_digits base (drop i w) ≡ false
-  unfolding are_digits
-  digits_stop k = rw (drop-cons w i 0 h, le-ltb (digit_of (get_or w i 0)) base k)
-
-pub digits_end : (base : ℕ) (w : List ℕ) (i : ℕ) → length w ≤ i → are_digits base (drop i w) ≡ true
+pub all_digits : (base : ℕ) (w : List ℕ) → list_all (λ b. nat_lt (digit_of b) base) w ≡ are_digits base w
 unfolding are_digits
-digits_end base w i h = rw (drop_of_length-le w h)
+all_digits base [] = refl
+all_digits base (b ∷ w) = rw (all_digits base w)
 
 and_parts : (a b : Bool) → a && b ≡ true → (a ≡ true) × (b ≡ true)
 and_parts true b e = (refl, e)
@@ -58,8 +60,19 @@ pair_at (b ∷ c ∷ w) (suc i) h =
     let n : 2 * suc i ≡ suc (suc (2 * i)) = omega arith in
     rw (m, n) (pair_at w i (omega arith))
 
-pub pair_lt : (w : List ℕ) (i : ℕ) → are_digits 16 w ≡ true → i < length w / 2 → (digit_of (get_or w (2 * i) 0) < 16) × (digit_of (get_or w (2 * i + 1) 0) < 16)
-pair_lt w i e h = (digit_lt 16 w (2 * i) e (omega arith), digit_lt 16 w (2 * i + 1) e (omega arith))
+-- two digits spell a byte
+pub pair_spelt : (w : List ℕ) (i : ℕ) → are_digits 16 w ≡ true → i < length w / 2 → spelt_in 16 (take (2 * i + 2 - 2 * i) (drop (2 * i) w)) ≡ Some (get_or (pairs_of w) i 0)
+unfolding are_digits spelt
+pair_spelt w i e h =
+    let n : 2 * i + 2 - 2 * i ≡ 2 = omega arith in
+    let j : 2 * i < length w = omega arith in
+    let k : suc (2 * i) < length w = omega arith in
+    let d = digit_lt 16 w (2 * i) e j in
+    let f : digit_of (get_or w (suc (2 * i)) 0) < 16 = digit_lt 16 w (suc (2 * i)) e k in
+    rw (n, drop-cons w (2 * i) 0 j, drop-cons w (suc (2 * i)) 0 k, lt-ltb (digit_of (get_or w (2 * i) 0)) 16 d, lt-ltb (digit_of (get_or w (suc (2 * i)) 0)) 16 f, pair_at w i h, add-one) (ap (λ (n : ℕ). Some n) (omega arith))
+
+pub pair_byte : (w : List ℕ) (i : ℕ) → are_digits 16 w ≡ true → i < length w / 2 → get_or (pairs_of w) i 0 < 256
+pair_byte w i e h = let d = digit_lt 16 w (2 * i) e (omega arith) in let f = digit_lt 16 w (2 * i + 1) e (omega arith) in omega (arith, pair_at w i h)
 
 -- of the bytes of a word, i are put
 pub record Pairing (w before now : List ℕ) (i : ℕ) : Type 0 where
@@ -71,13 +84,11 @@ unfolding over
 pairing_starts w before = record { same = refl; done = refl }
 
 module _ {w before now : List ℕ} {i : ℕ} (p : Pairing w before now i) where
-  pub pairing_goes : (b : ℕ) → i < length w / 2 → i < length before → b ≡ digit_of (get_or w (2 * i) 0) * 16 + digit_of (get_or w (2 * i + 1) 0)
-      → Pairing w before (set now i b) (i + 1)
-  pairing_goes b h k e =
+  pub pairing_goes : (b : ℕ) → i < length w / 2 → i < length before → b ≡ get_or (pairs_of w) i 0 → Pairing w before (set now i b) (i + 1)
+  pairing_goes b h k q =
       let m : i < length (pairs_of w) = rw (pairs_length w) h in
       let l : length (take i (pairs_of w)) ≡ i = length-take-le i (pairs_of w) (omega arith) in
       let k2 : length (take i (pairs_of w)) < length before = rw l k in
-      let q : b ≡ get_or (pairs_of w) i 0 = e ∙ sym (pair_at w i h) in
       let n : set (over (take i (pairs_of w)) before) i b ≡ over (take i (pairs_of w) ++ (b ∷ [])) before = rw l at (over_next (take i (pairs_of w)) b before k2) in
       record {
         same = length-set now i b ∙ p.same;
@@ -88,6 +99,21 @@ module _ {w before now : List ℕ} {i : ℕ} (p : Pairing w before now i) where
   pairing_ends h = p.done ∙ rw (take_all i (pairs_of w) (rw (pairs_length w) h))
 
 -- ---- whether a word is held
+
+&&-true : (t : Bool) → t && true ≡ t
+&&-true true = refl
+&&-true false = refl
+
+&&-false : (t : Bool) → t && false ≡ false
+&&-false true = refl
+&&-false false = refl
+
+-- it is told by one comparison
+pub dash_is : (w : List ℕ) → pointwise nat_eq w (45 ∷ []) ≡ is_dash w
+unfolding is_dash
+dash_is [] = refl
+dash_is (b ∷ []) = &&-true (eqb b 45)
+dash_is (b ∷ c ∷ w) = rw (&&-false (eqb b 45), ne_eqb (suc (suc (length w))) 1 (λ e. absurd (omega arith)))
 
 dash_none : (w : List ℕ) → is_dash w ≡ true → pairs_of w ≡ []
 unfolding is_dash pairs_of
@@ -119,23 +145,33 @@ module _ (room : ℕ) (w : List ℕ) where
   lost_room e f h = rw (e, f, pairs_length w) (lt-leb (length w / 2) room h)
 
   -- what a call answers and leaves
-  pub by_dash : (xs : List ℕ) → is_dash w ≡ true → (Count 0 ≡ bytes_of room w) × (xs ≡ over (bytes_in room w) xs)
+  pub by_dash : (xs : List ℕ) → is_dash w ≡ true → (Some 0 ≡ bytes_of room w) × (xs ≡ over (bytes_in room w) xs)
   unfolding bytes_of bytes_in over
   by_dash xs e = (rw (held_dash e, dash_none w e), rw (held_dash e, dash_none w e))
 
-  pub by_lost : (xs : List ℕ) → is_held room w ≡ false → (Bad ≡ bytes_of room w) × (xs ≡ over (bytes_in room w) xs)
+  pub by_lost : (xs : List ℕ) → is_held room w ≡ false → (None ≡ bytes_of room w) × (xs ≡ over (bytes_in room w) xs)
   unfolding bytes_of bytes_in over
   by_lost xs e = (rw e, rw e)
 
-  pub by_pairs : (xs ys : List ℕ) → is_held room w ≡ true → ys ≡ over (pairs_of w) xs → (Count (length w / 2) ≡ bytes_of room w) × (ys ≡ over (bytes_in room w) xs)
+  pub by_pairs : (xs ys : List ℕ) → is_held room w ≡ true → ys ≡ over (pairs_of w) xs → (Some (length w / 2) ≡ bytes_of room w) × (ys ≡ over (bytes_in room w) xs)
   unfolding bytes_of bytes_in
   by_pairs xs ys e q = (rw (e, pairs_length w), rw e q)
 
-  pub count_le : (n : ℕ) → bytes_of room w ≡ Count n → n ≤ room
+  -- as many as the lent list holds, at most
+  pub room_enough : IfOk (ok_or (bytes_of room w) lost) (λ n. n ≤ room)
   unfolding bytes_of is_held
-  count_le n e = go (is_dash w || are_pairs w) (leb (length (pairs_of w)) room) (leb-true (length (pairs_of w)) room) e
+  room_enough = go (is_dash w || are_pairs w) (leb (length (pairs_of w)) room) (leb-true (length (pairs_of w)) room)
     where
-      go : (a t : Bool) → (t ≡ true → length (pairs_of w) ≤ room) → pick_bytes (a && t) (Count (length (pairs_of w))) Bad ≡ Count n → n ≤ room
-      go true true h e = let q : length (pairs_of w) ≡ n = cc in omega (arith, h refl)
-      go true false h e = let z : ◌≡◌ {A = ℕ} 0 1 = cc in absurd (omega arith)
-      go false t h e = let z : ◌≡◌ {A = ℕ} 0 1 = cc in absurd (omega arith)
+      go : (a t : Bool) → (t ≡ true → length (pairs_of w) ≤ room) → IfOk (ok_or (pick_bytes (a && t) (Some (length (pairs_of w))) None) lost) (λ n. n ≤ room)
+      go true true h = h refl
+      go true false h = tt
+      go false t h = tt
+
+-- where there is no word
+pub of_none : (room : ℕ) → bytes_of room [] ≡ None
+unfolding bytes_of is_held is_dash are_pairs
+of_none room = refl
+
+pub put_none : (room : ℕ) (xs : List ℕ) → xs ≡ over (bytes_in room []) xs
+unfolding bytes_in is_held is_dash are_pairs over
+put_none room xs = refl

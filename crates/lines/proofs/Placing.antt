@@ -1,13 +1,16 @@
 -- Laws of digits that are counted and put from the back. Assumes nothing.
-use Prim.Native.Nat.{ℕ, zero, suc, ◌+◌, ◌-◌, ◌/◌, ◌%◌, ◌^◌, ◌≤◌, ◌<◌}
+use Prim.Native.Nat.{ℕ, zero, suc, ◌+◌, ◌-◌, ◌*◌, ◌/◌, ◌%◌, ◌^◌, ◌≤◌, ◌<◌}
 use mathlib.Core.Path.{◌≡◌, refl, sym, ap, ◌∙◌}
+use mathlib.Core.Bool.{Bool, true, false, ◌&&◌, false≢true}
 use mathlib.Core.List.{List, [], ◌∷◌, ◌++◌}
 use native.Mathlib.Omega.{arith}
 use native.Mathlib.Decide.{dec_le}
-use native.Mathlib.Nat.{lt_of_lt_of_le, lt_of_not-le, pow-suc, div-lt_iff_lt-mul}
-use lib.Dec.{lit<, lit≤}
-use lib.ListN.{length, set, length-append, length-set}
-use borrow.Author.Tests.{lt-ltb, le-ltb}
+use native.Mathlib.Nat.{lt_of_lt_of_le, lt_of_not-le, pow-suc, one-le-pow, div-lt_iff_lt-mul, le-div_iff_mul-le}
+use lib.Dec.{eqb, lit<, lit≤}
+use lib.ListN.{length, get_or, set, length-append, length-set}
+use borrow.Author.Tests.{lt-ltb, le-ltb, eqb-true}
+use Rattle.std.proofs.Common.{Option, Some, None, IfSome, IfNone}
+use Rattle.std.specs.Option.{unwrap_or}
 use Rattle.lines.specs.Digits.{glyph_of, digits_of, places_up_to, decimal_of}
 use Rattle.lists.specs.Over.{over}
 
@@ -18,6 +21,28 @@ glyph_low d h = rw (lt-ltb d 10 h)
 pub glyph_high : (d : ℕ) → 10 ≤ d → 65 + (d - 10) ≡ glyph_of d
 unfolding glyph_of
 glyph_high d h = rw (le-ltb d 10 h)
+
+-- the table of the glyphs, which are few enough to be looked at one by one
+abbrev table : List ℕ
+table = 48 ∷ 49 ∷ 50 ∷ 51 ∷ 52 ∷ 53 ∷ 54 ∷ 55 ∷ 56 ∷ 57 ∷ 65 ∷ 66 ∷ 67 ∷ 68 ∷ 69 ∷ 70 ∷ []
+
+each_below : (ℕ → Bool) → ℕ → Bool
+each_below p zero = true
+each_below p (suc n) = p n && each_below p n
+
+each_at : (p : ℕ → Bool) (n d : ℕ) → each_below p n ≡ true → d < n → p d ≡ true
+unfolding each_below
+each_at p zero d e h = absurd (omega arith)
+each_at p (suc n) d e h = go (dec_le n d) (p n) refl e (each_at p n d)
+  where
+    go : Dec (n ≤ d) → (t : Bool) → p n ≡ t → t && each_below p n ≡ true → (each_below p n ≡ true → d < n → p d ≡ true) → p d ≡ true
+    go (yes k) true q e r = let z : d ≡ n = omega arith in rw z q
+    go (no f) true q e r = r e (lt_of_not-le f)
+    go k false q e r = absurd (false≢true e)
+
+pub glyph_at : (d : ℕ) → d < 16 → get_or table d 0 ≡ glyph_of d
+unfolding each_below glyph_of
+glyph_at d h = eqb-true (get_or table d 0) (glyph_of d) (each_at (λ d. eqb (get_or table d 0) (glyph_of d)) 16 d refl h)
 
 -- ---- the digits, the last first
 
@@ -89,24 +114,19 @@ pub decimal_few : (n : ℕ) → n < 65536 → length (decimal_of n) ≤ 5
 unfolding decimal_of
 decimal_few n h = rw (digits_length 10 (places_up_to 19 n) n) (places_few 19 4 n (lt_of_lt_of_le h (lit≤ tt)))
 
--- k digits of n are counted, rest is what is left of n, and left more may be found
-pub record Counting (n k rest : ℕ) : Type 0 where
-  pub left : ℕ
-  pub most : k + left ≡ 20
-  pub enough : rest < 10 ^ suc left
-  pub count : k + places_up_to left rest ≡ 1 + places_up_to 19 n
+-- a number from 10 ^ j on and below ten times that has one digit more than j
+pub places_power : (k j n : ℕ) → 10 ^ j ≤ n → n < 10 * 10 ^ j → j ≤ k → places_up_to k n ≡ j + 1
+places_power k zero n l h b = places_one k n (omega arith)
+places_power zero (suc j) n l h b = absurd (omega arith)
+places_power (suc k) (suc j) n l h b =
+    let s = pow-suc 10 j in
+    let t = one-le-pow j 10 (lit< tt) in
+    let m : 10 ≤ n = omega arith in
+    let q : 10 ^ j ≤ n / 10 = (le-div_iff_mul-le (lit< tt)).1 (rw (← s) l) in
+    let r : n / 10 < 10 * 10 ^ j = (div-lt_iff_lt-mul (lit< tt)).1 (omega arith) in
+    places_more k n m ∙ rw (places_power k j (n / 10) q r (omega arith)) (omega arith)
 
-pub counting_starts : (n : ℕ) → n < 18446744073709551616 → Counting n 1 n
-counting_starts n h = record { left = 19; most = refl; enough = lt_of_lt_of_le h (lit≤ tt); count = refl }
-
-pub counting_goes : {n k rest : ℕ} → Counting n k rest → 10 ≤ rest → Counting n (k + 1) (rest / 10)
-counting_goes {n} {k} {rest} c h = go c.left c.most c.enough c.count
-  where
-    go : (l : ℕ) → k + l ≡ 20 → rest < 10 ^ suc l → k + places_up_to l rest ≡ 1 + places_up_to 19 n → Counting n (k + 1) (rest / 10)
-    go zero m e q = absurd (omega arith)
-    go (suc l) m e q = record {
-      left = l;
-      most = omega arith;
-      enough = one_fewer 10 (suc l) rest (lit< tt) e;
-      count = let p = places_more l rest h in omega arith;
-    }
+-- the logarithm to the base 10 counts them
+pub places_log : (o : Option ℕ) (n : ℕ) → IfNone o (n ≡ 0) → IfSome o (λ k. 10 ^ k ≤ n) → IfSome o (λ k. n < 10 * 10 ^ k) → IfSome o (λ k. k < 20) → unwrap_or o 0 + 1 ≡ places_up_to 19 n
+places_log None n z l h b = sym (places_one 19 n (omega arith))
+places_log (Some k) n z l h b = sym (places_power 19 k n l h (omega arith))

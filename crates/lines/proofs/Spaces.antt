@@ -3,17 +3,18 @@ use Prim.Native.Nat.{ℕ, zero, suc, ◌+◌, ◌-◌, ◌≤◌, ◌<◌}
 use mathlib.Core.Path.{◌≡◌, refl, sym, ap, ◌∙◌}
 use mathlib.Core.Bool.{Bool, true, false, cond}
 use mathlib.Core.List.{List, [], ◌∷◌}
-use mathlib.Core.Logic.{⊎_elim}
+use native.Mathlib.Decide.{dec_le}
+use native.Mathlib.Nat.{lt_of_not-le}
 use native.Mathlib.Omega.{arith}
-use native.Mathlib.Nat.{eq-zero-or-pos}
-use native.Mathlib.Numerals.{add-one}
 use lib.Dec.{eqb, ltb}
-use lib.ListN.{length, take, drop, get_or, length-drop, drop_of_length-le}
-use lib.Seq.{drop-cons}
-use borrow.Author.Tests.{eq-eqb, ne_eqb, lt-ltb, le-ltb}
-use Rattle.lines.specs.Words.{up_to_space, word_at, rest_at, pick_place, no_word, Found}
-use Rattle.lines.specs.declared.words.Place.{Place}
-use Rattle.lines.specs.declared.words.Place.TheVariants.{At, End, Lost}
+use lib.ListN.{length, take, drop, length-drop}
+use lib.Seq.{take_all}
+use borrow.Author.Tests.{lt-ltb, le-ltb}
+use Rattle.std.proofs.Common.{Option, Some, None, Ok, Err, nat_eq, position, option_map}
+use Rattle.std.specs.Option.{unwrap_or}
+use Rattle.std.proofs.lemmas.List.Recursion.{is_position_or_len}
+use Rattle.lines.specs.Words.{up_to_space, word_at, rest_at, place_after, pick_place, lost}
+use Rattle.lines.specs.declared.words.BadLine.{BadLine}
 
 pub upto_length : (s : List ℕ) → length (up_to_space s) ≤ length s
 unfolding up_to_space
@@ -34,67 +35,77 @@ take_upto (b ∷ s) = go (eqb b 32) (take_upto s)
     go true e = refl
     go false e = ap (λ (l : List ℕ). b ∷ l) e
 
-module _ (s : List ℕ) (i : ℕ) where
-  pub upto_inside : 0 < length (up_to_space (drop i s)) → i + length (up_to_space (drop i s)) ≤ length s
-  upto_inside h = omega (arith, upto_length (drop i s), length-drop i s)
-
-  pub upto_end : length s ≤ i → i ≡ i + length (up_to_space (drop i s))
-  unfolding up_to_space
-  upto_end h = rw (drop_of_length-le s h) (omega arith)
-
-  pub upto_space : i < length s → get_or s i 0 ≡ 32 → i ≡ i + length (up_to_space (drop i s))
-  unfolding up_to_space
-  upto_space h e = rw (drop-cons s i 0 h, eq-eqb (get_or s i 0) 32 e) (omega arith)
-
-  pub upto_more : i < length s → (get_or s i 0 ≡ 32 → ⊥) → i + length (up_to_space (drop i s)) ≡ i + 1 + length (up_to_space (drop (i + 1) s))
-  unfolding up_to_space
-  upto_more h n = rw (add-one, drop-cons s i 0 h, ne_eqb (get_or s i 0) 32 n) (omega arith)
+-- where the first space is
+pub space_at : (s : List ℕ) → position (λ b. nat_eq b 32) s ≡ cond (ltb (length (up_to_space s)) (length s)) (Some (length (up_to_space s))) None
+unfolding up_to_space
+space_at s = rw (← is_position_or_len (λ (t : List ℕ). length (up_to_space t)) (λ b. nat_eq b 32) refl next s) refl
+  where
+    next : (b : ℕ) (t : List ℕ) → length (up_to_space (b ∷ t)) ≡ cond (nat_eq b 32) 0 (1 + length (up_to_space t))
+    next b t = go (eqb b 32)
+      where
+        go : (v : Bool) → length (cond v [] (b ∷ up_to_space t)) ≡ cond v 0 (1 + length (up_to_space t))
+        go true = refl
+        go false = omega arith
 
 -- ---- the word at a place
 
-pub found_none : (s : List ℕ) (p : Place) → word_at s p ≡ [] → rest_at s p ≡ Lost → Found s p no_word
-found_none s p w r = record { ordered = omega arith; inside = omega arith; word = sym w; after = sym r }
+-- of a line the bytes from i on: n of them stand before the first space, which is at e
+module _ (s : List ℕ) (i : ℕ) (e : Option ℕ) (n : ℕ)
+    (at : e ≡ position (λ b. nat_eq b 32) (take (length s - i) (drop i s)))
+    (long : n ≡ unwrap_or e (length (take (length s - i) (drop i s)))) where
+  rest : take (length s - i) (drop i s) ≡ drop i s
+  rest = take_all (length s - i) (drop i s) (omega (arith, length-drop i s))
 
-pub none_at : (s : List ℕ) (i : ℕ) → i ≡ i + length (up_to_space (drop i s)) → Found s (At i) no_word
-unfolding word_at rest_at
-none_at s i h = go (up_to_space (drop i s)) refl (omega arith)
-  where
-    go : (w : List ℕ) → up_to_space (drop i s) ≡ w → length w ≡ 0 → Found s (At i) no_word
-    go [] e l = found_none s (At i) e (rw e)
-    go (b ∷ w) e l = absurd (omega arith)
+  space : e ≡ cond (ltb (length (up_to_space (drop i s))) (length (drop i s))) (Some (length (up_to_space (drop i s)))) None
+  space = at ∙ rw rest (space_at (drop i s))
 
-pub none_end : (s : List ℕ) → Found s End no_word
-unfolding word_at rest_at
-none_end s = found_none s End refl refl
+  before : (m l : ℕ) → m ≤ l → unwrap_or (cond (ltb m l) (Some m) None) l ≡ m
+  before m l h = go (dec_le l m)
+    where
+      go : Dec (l ≤ m) → unwrap_or (cond (ltb m l) (Some m) None) l ≡ m
+      go (yes k) = rw (le-ltb m l k) (omega arith)
+      go (no f) = let k : m < l = lt_of_not-le f in rw (lt-ltb m l k)
 
-pub none_lost : (s : List ℕ) → Found s Lost no_word
-unfolding word_at rest_at
-none_lost s = found_none s Lost refl refl
+  -- they are the word
+  word_length : n ≡ length (up_to_space (drop i s))
+  word_length = long ∙ rw (space, rest) (before (length (up_to_space (drop i s))) (length (drop i s)) (upto_length (drop i s)))
 
--- where there is a word, what follows it is a space and the next place, or the end
-pub rest_is : (s : List ℕ) (i n : ℕ) → length (up_to_space (drop i s)) ≡ n → 0 < n → rest_at s (At i) ≡ pick_place (ltb (i + n) (length s)) (At (i + n + 1)) End
-unfolding rest_at
-rest_is s i zero l h = absurd (omega arith)
-rest_is s i (suc n) l h = rw l
-
--- a word from i to e
-module _ (s : List ℕ) (i e : ℕ) (h : e ≡ i + length (up_to_space (drop i s))) (n : e ≡ i → ⊥) where
-  some : 0 < length (up_to_space (drop i s))
-  some = ⊎_elim (λ z. absurd (n (omega arith))) (λ p. p) (eq-zero-or-pos (length (up_to_space (drop i s))))
-
-  found : (r : Place) → r ≡ pick_place (ltb e (length s)) (At (e + 1)) End → Found s (At i) (record { start = i; end = e; rest = r })
+  pub word_is : take n (take (length s - i) (drop i s)) ≡ word_at s (Some i)
   unfolding word_at
-  found r q =
-      let d : e - i ≡ length (up_to_space (drop i s)) = omega arith in
-      record {
-        ordered = omega arith;
-        inside = rw h (upto_inside s i some);
-        word = ap (λ (x : ℕ). take x (drop i s)) d ∙ take_upto (drop i s);
-        after = q ∙ rw h (sym (rest_is s i (length (up_to_space (drop i s))) refl some));
-      }
+  word_is = rw (rest, word_length) (take_upto (drop i s))
 
-  pub found_before : e < length s → Found s (At i) (record { start = i; end = e; rest = At (e + 1) })
-  found_before l = found (At (e + 1)) (rw (lt-ltb e (length s) l))
+  long_is : length (take n (take (length s - i) (drop i s))) ≡ length (up_to_space (drop i s))
+  unfolding word_at
+  long_is = ap (λ (l : List ℕ). length l) word_is
 
-  pub found_last : length s ≤ e → Found s (At i) (record { start = i; end = e; rest = End })
-  found_last l = found End (rw (le-ltb e (length s) l))
+  pub none_is : length (take n (take (length s - i) (drop i s))) ≡ 0 → rest_at s (Some i) ≡ Err lost
+  unfolding rest_at
+  none_is h = rw (sym long_is ∙ h)
+
+  pub next_is : (length (take n (take (length s - i) (drop i s))) ≡ 0 → ⊥) → rest_at s (Some i) ≡ Ok (option_map (λ k. i + k + 1) e)
+  unfolding rest_at
+  next_is k = go (length (up_to_space (drop i s))) refl
+    where
+      past : (m : ℕ) → pick_place (ltb (i + m) (length s)) (Some (i + m + 1)) None ≡ option_map (λ k. i + k + 1) (cond (ltb m (length (drop i s))) (Some m) None)
+      past m = at_end (dec_le (length (drop i s)) m)
+        where
+          at_end : Dec (length (drop i s) ≤ m) → pick_place (ltb (i + m) (length s)) (Some (i + m + 1)) None ≡ option_map (λ k. i + k + 1) (cond (ltb m (length (drop i s))) (Some m) None)
+          at_end (yes h) = let l : length s ≤ i + m = omega (arith, length-drop i s) in rw (le-ltb m (length (drop i s)) h, le-ltb (i + m) (length s) l)
+          at_end (no f) =
+              let h : m < length (drop i s) = lt_of_not-le f in
+              let l : i + m < length s = omega (arith, length-drop i s) in
+              rw (lt-ltb m (length (drop i s)) h, lt-ltb (i + m) (length s) l)
+
+      go : (m : ℕ) → length (up_to_space (drop i s)) ≡ m → place_after s i (length (up_to_space (drop i s))) ≡ Ok (option_map (λ k. i + k + 1) e)
+      go zero l = absurd (k (long_is ∙ l))
+      go (suc m) l = rw (space, l) (ap (λ (p : Option ℕ). Ok p) (past (suc m)))
+
+-- where there is no word, none is read
+pub none_left : (s : List ℕ) (p : Option ℕ) (e : BadLine) → rest_at s p ≡ Err e → word_at s p ≡ []
+unfolding rest_at word_at
+none_left s None e h = refl
+none_left s (Some i) e h = go (up_to_space (drop i s)) h
+  where
+    go : (w : List ℕ) → place_after s i (length w) ≡ Err e → w ≡ []
+    go [] h = refl
+    go (b ∷ w) h = cc

@@ -3,16 +3,17 @@ use Prim.Native.Nat.{ℕ, suc, ◌+◌, ◌-◌, ◌*◌, ◌^◌, ◌≤◌, �
 use mathlib.Core.Path.{◌≡◌, refl, sym, ◌∙◌}
 use mathlib.Core.Bool.{Bool, true, false, ◌&&◌, false≢true}
 use mathlib.Core.List.{List, [], ◌∷◌}
+use native.Mathlib.Decide.{dec_le}
 use native.Mathlib.Omega.{arith}
 use native.Mathlib.Numerals.{add-one}
-use native.Mathlib.Nat.{lt_of_lt_of_le, mul-le-mul_left, mul-le-mul_right, mul_assoc, mul-one, pow-zero, pow-suc, pow-succ', pow-le-pow_right}
+use native.Mathlib.Nat.{lt_of_lt_of_le, lt_of_not-le, mul-le-mul_left, mul-le-mul_right, mul_assoc, mul-one, pow-zero, pow-suc, pow-succ', pow-le-pow_right}
 use lib.Dec.{ltb, lit<}
 use lib.ListN.{length, drop, get_or, drop_of_length-le}
 use lib.Seq.{drop-cons}
 use borrow.Author.Tests.{lt-ltb, le-ltb, le-leb, lt-leb, ltb-true}
 use Rattle.lines.specs.Digits.{digit_of, are_digits, spelt}
 use Rattle.lines.specs.Numbers.{pick_number, spelt_in}
-use Rattle.lines.specs.declared.numbers.Number.TheVariants.{Value, Bad}
+use Rattle.std.proofs.Common.{Some, None}
 
 -- ---- one digit
 
@@ -52,7 +53,7 @@ digit_above b h =
 -- i digits of a word are read and spell n, and with the rest of the word that is what the whole word spells
 pub record Spelling (base : ℕ) (w : List ℕ) (n i : ℕ) : Type 0 where
   pub short : n < 16 ^ i
-  pub whole : spelt_in base w ≡ pick_number (are_digits base (drop i w)) (Value (spelt base n (drop i w))) Bad
+  pub whole : spelt_in base w ≡ pick_number (are_digits base (drop i w)) (Some (spelt base n (drop i w))) None
 
 pub spelling_starts : (base : ℕ) (w : List ℕ) → Spelling base w 0 0
 spelling_starts base w = record { short = omega arith; whole = refl }
@@ -72,11 +73,15 @@ module _ {base : ℕ} {w : List ℕ} {n i d : ℕ} (s : Spelling base w n i) whe
     whole = s.whole ∙ rw (add-one, e, drop-cons w i 0 h, lt-ltb (digit_of (get_or w i 0)) base (rw (← e) k));
   }
 
-  pub spelling_stops : i < length w → d ≡ digit_of (get_or w i 0) → base ≤ d → Bad ≡ spelt_in base w
-  unfolding are_digits
-  spelling_stops h e k = sym (s.whole ∙ rw (drop-cons w i 0 h, ← e, le-ltb d base k))
+module _ {base : ℕ} {w : List ℕ} {n i : ℕ} (s : Spelling base w n i) where
+  pub spelling_room : base ≤ 16 → i < 10 → n * base < 1099511627776
+  spelling_room b t = elim (dec_le base 0) [ yes z ↦ omega (arith, mul-le-mul_left n z) | no f ↦ omega (arith, spelling_fits {d = 0} s b (lt_of_not-le f) t) ]
 
-pub spelling_ends : {base : ℕ} {w : List ℕ} {n i : ℕ} → Spelling base w n i → length w ≤ i → Value n ≡ spelt_in base w
+  pub spelling_stops : i < length w → base ≤ digit_of (get_or w i 0) → None ≡ spelt_in base w
+  unfolding are_digits
+  spelling_stops h k = sym (s.whole ∙ rw (drop-cons w i 0 h, le-ltb (digit_of (get_or w i 0)) base k))
+
+pub spelling_ends : {base : ℕ} {w : List ℕ} {n i : ℕ} → Spelling base w n i → length w ≤ i → Some n ≡ spelt_in base w
 unfolding are_digits spelt
 spelling_ends {base} {w} s h = sym (s.whole ∙ rw (drop_of_length-le w h))
 
@@ -95,10 +100,10 @@ spelt_lt base (b ∷ w) n e = go (ltb (digit_of b) base) (ltb-true (digit_of b) 
     go false d e h = absurd (false≢true e)
 
 -- eight hex digits spell a number of 32 bits
-pub eight_fit : (w : List ℕ) (n : ℕ) → length w ≡ 8 → spelt_in 16 w ≡ Value n → n < 2 ^ 32
+pub eight_fit : (w : List ℕ) (n : ℕ) → length w ≡ 8 → spelt_in 16 w ≡ Some n → n < 2 ^ 32
 eight_fit w n l e = go (are_digits 16 w) refl e
   where
-    go : (t : Bool) → are_digits 16 w ≡ t → pick_number t (Value (spelt 16 0 w)) Bad ≡ Value n → n < 2 ^ 32
+    go : (t : Bool) → are_digits 16 w ≡ t → pick_number t (Some (spelt 16 0 w)) None ≡ Some n → n < 2 ^ 32
     go true d e =
         let q : spelt 16 0 w ≡ n = cc in
         rw (q, l) at (spelt_lt 16 w 0 d)

@@ -1,12 +1,8 @@
 -- A byte list is one word of uppercase hex digits, two to a byte, or `-` where it is empty. Assumes nothing.
-use Rattle.std.specs.Prelude.{ℕ, ◌+◌, ◌*◌, ◌%◌, Bool, true, false, ◌&&◌, ◌||◌, cond, List, [], ◌∷◌, eqb, leb, length, get_or}
+use Rattle.std.specs.Prelude.{ℕ, ◌+◌, ◌*◌, ◌%◌, Bool, true, false, ◌&&◌, ◌||◌, cond, List, [], ◌∷◌, Option, Some, None, ok_or, Result, eqb, leb, length, get_or}
 use Rattle.lines.specs.Digits.{digit_of, are_digits}
-use Rattle.lines.specs.Words.{word_at, rest_at}
-use Rattle.lines.specs.declared.byte_lists.Bytes.{Bytes}
-use Rattle.lines.specs.declared.byte_lists.Bytes.TheVariants.{Count, Bad}
-use Rattle.lines.specs.declared.byte_lists.BytesRead.{BytesRead}
-use Rattle.lines.specs.declared.words.Place.{Place}
-use Rattle.lines.specs.declared.words.Place.TheVariants.{Lost}
+use Rattle.lines.specs.Words.{Place, lost, word_at}
+use Rattle.lines.specs.declared.words.BadLine.{BadLine}
 
 -- the bytes that the digits of a word spell, two to a byte; a digit alone spells none, and so does `-`
 unfoldable pub pairs_of : List ℕ → List ℕ
@@ -30,19 +26,14 @@ is_held room w = (is_dash w || are_pairs w) && leb (length (pairs_of w)) room
 unfoldable pub bytes_in : ℕ → List ℕ → List ℕ
 bytes_in room w = cond (is_held room w) (pairs_of w) []
 
-abbrev pub pick_bytes : Bool → Bytes → Bytes → Bytes
+abbrev pub pick_bytes : Bool → Option ℕ → Option ℕ → Option ℕ
 pick_bytes true a b = a
 pick_bytes false a b = b
 
 -- how many they are
-unfoldable pub bytes_of : ℕ → List ℕ → Bytes
-bytes_of room w = pick_bytes (is_held room w) (Count (length (pairs_of w))) Bad
-
--- a byte list and the place after it; one that is not held loses the line
-abbrev pub bytes_then : Bytes → Place → BytesRead
-bytes_then (Count n) rest = record { count = n; rest = rest }
-bytes_then Bad rest = record { count = 0; rest = Lost }
+unfoldable pub bytes_of : ℕ → List ℕ → Option ℕ
+bytes_of room w = pick_bytes (is_held room w) (Some (length (pairs_of w))) None
 
 -- the byte list at a place of a line
-unfoldable pub bytes_at : ℕ → List ℕ → Place → BytesRead
-bytes_at room line p = bytes_then (bytes_of room (word_at line p)) (rest_at line p)
+unfoldable pub bytes_at : ℕ → List ℕ → Place → Result ℕ BadLine
+bytes_at room line p = ok_or (bytes_of room (word_at line p)) lost

@@ -1,16 +1,21 @@
 // Digits in any base up to 16: `0` to `9`, then `A` to `F`.
-ghost use Rattle.std.specs.Prelude.{◌≡◌, ◌<◌};
+ghost use Rattle.std.specs.Prelude.{◌≡◌, ◌<◌, ◌≤◌, MatchOption};
 ghost use Rattle.lines.specs.Digits.{digit_of, are_digits, glyph_of};
 
-// What a byte is worth as a digit: 16 where it is none.
-pub(crate) fn digit(b: u8) -> u64
-    ensures { result ≡ digit_of b }
+const GLYPHS: &[u8; 16] = b"0123456789ABCDEF";
+
+// What a byte is worth as a digit of a base.
+pub(crate) fn digit(b: u8, base: u64) -> Option<u64>
+    requires { base ≤ 16 }
+    ensures { MatchOption result (base ≤ digit_of b) (λ d. (d ≡ digit_of b) × (d < base)) }
 {
-    match b {
-        b'0'..=b'9' => (b - b'0') as u64,
-        b'A'..=b'F' => (b - b'A') as u64 + 10,
-        _ => 16,
-    }
+    let d = match b {
+        b'0'..=b'9' => b - b'0',
+        b'A'..=b'F' => b - b'A' + 10,
+        _ => return None,
+    };
+    let d = d as u64;
+    if d < base { Some(d) } else { None }
 }
 
 // The byte of a digit.
@@ -18,23 +23,13 @@ pub(crate) fn glyph(d: u64) -> u8
     requires { d < 16 }
     ensures { result ≡ glyph_of d }
 {
-    if d < 10 {
-        b'0' + d as u8
-    } else {
-        b'A' + (d - 10) as u8
-    }
+    GLYPHS[d as usize]
 }
 
 // Whether every byte of a word is a digit of the base.
 pub(crate) fn are_digits(word: &[u8], base: u64) -> bool
+    requires { base ≤ 16 }
     ensures { result ≡ are_digits base word.now }
 {
-    let mut i = 0;
-    while i < word.len() {
-        if base <= digit(word[i]) {
-            return false;
-        }
-        i += 1;
-    }
-    true
+    word.iter().all(|b| digit(*b, base).is_some())
 }

@@ -40,13 +40,7 @@ fn places(n: u64) -> usize
     ensures value { result ≡ places_up_to 19 n }
     ensures upper_bound { result ≤ 20 }
 {
-    let mut k = 1;
-    let mut rest = n;
-    while 10 <= rest {
-        rest = rest / 10;
-        k += 1;
-    }
-    k
+    n.checked_ilog10().unwrap_or(0) as usize + 1
 }
 
 // Puts the last k digits of n, from the last to the first.
@@ -54,11 +48,9 @@ fn put_digits(out: &mut [u8], n: u64, base: u64, k: usize)
     requires { (0 < base) × (base ≤ 16) × (k ≤ length out.old) }
     ensures { out.new ≡ over (digits_of base k n) out.old }
 {
-    let mut i = k;
     let mut rest = n;
-    while 0 < i {
-        i -= 1;
+    for i in (0..k).rev() {
         out[i] = glyph(rest % base);
-        rest = rest / base;
+        rest /= base;
     }
 }

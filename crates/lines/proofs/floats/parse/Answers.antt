@@ -1,6 +1,6 @@
 -- `lines::floats::parse` meets its contract: eight hex digits spell 32 bits. Assumes nothing.
 use borrow.Author.Tests.{eq-eqb, ne_eqb}
-use mathlib.Core.Path.{sym, ◌∙◌}
+use mathlib.Core.Path.{sym}
 use lib.ListN.{length}
 use Rattle.lines.specs.Floats.{float_of}
 use Rattle.lines.proofs.Spelling.{eight_fit}
@@ -10,15 +10,13 @@ pub returns-then-word-ne8 : goal.returns-then-word-ne8
 unfolding float_of
 returns-then-word-ne8 c = rw (ne_eqb (length c.args.word.now) 8 c.if-word-ne8.true)
 
-pub overflow_cast-bits : goal.overflow_cast-bits
-overflow_cast-bits c =
-    let w = c.args.word.now in
-    record { fits = eight_fit w c.in-Value.bits c.if-word-ne8.false (sym c.spelt.ensures ∙ c.in-Value.is) }
-
-pub returns-in-Value : goal.returns-in-Value
+pub returns-in_err-spelt : goal.returns-in_err-spelt
 unfolding float_of
-returns-in-Value c = rw (eq-eqb (length c.args.word.now) 8 c.if-word-ne8.false, ← c.spelt.ensures, c.in-Value.is) c.of_bits.ensures
+returns-in_err-spelt c = rw (c.from_residual.ensures, eq-eqb (length c.args.word.now) 8 c.if-word-ne8.false, ← c.in_err-spelt.ensures)
 
-pub returns-in-Bad : goal.returns-in-Bad
+pub overflow_cast-branch : goal.overflow_cast-branch
+overflow_cast-branch c = record { fits = eight_fit c.args.word.now c.in_ok-spelt.field-0 c.if-word-ne8.false (sym c.in_ok-spelt.ensures) }
+
+pub returns : goal.returns
 unfolding float_of
-returns-in-Bad c = rw (eq-eqb (length c.args.word.now) 8 c.if-word-ne8.false, ← c.spelt.ensures, c.in-Bad.is)
+returns c = rw (eq-eqb (length c.args.word.now) 8 c.if-word-ne8.false, ← c.in_ok-spelt.ensures) c.of_bits.ensures

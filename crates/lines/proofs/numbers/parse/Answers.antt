@@ -1,17 +1,18 @@
 -- `lines::numbers::parse` meets its contract: the tests are those of the length. Assumes nothing.
 use borrow.Author.Tests.{le-leb, lt-leb}
+use native.Mathlib.Omega.{arith}
 use lib.ListN.{length}
 use Rattle.lines.specs.Numbers.{number_of}
 use Rattle.lines.proofs.numbers.parse.Goals as goal
 
-pub returns-then-word-lt1 : goal.returns-then-word-lt1
+pub returns-in-1-to-10 : goal.returns-in-1-to-10
 unfolding number_of
-returns-then-word-lt1 c = rw (lt-leb 1 (length c.args.word.now) c.if-word-lt1.true)
+returns-in-1-to-10 c = rw (le-leb 1 (length c.args.word.now) (omega arith), le-leb (length c.args.word.now) 10 (omega arith)) c.spelt.ensures
 
-pub returns-then-word-gt10 : goal.returns-then-word-gt10
+pub returns-in_default : goal.returns-in_default
 unfolding number_of
-returns-then-word-gt10 c = rw (le-leb 1 (length c.args.word.now) c.if-word-lt1.false, lt-leb (length c.args.word.now) 10 c.if-word-gt10.true)
+returns-in_default c = rw (lt-leb 1 (length c.args.word.now) (omega arith))
 
-pub returns : goal.returns
+pub returns-in_default-2 : goal.returns-in_default-2
 unfolding number_of
-returns c = rw (le-leb 1 (length c.args.word.now) c.if-word-lt1.false, le-leb (length c.args.word.now) 10 c.if-word-gt10.false) c.spelt.ensures
+returns-in_default-2 c = rw (le-leb 1 (length c.args.word.now) (omega arith), lt-leb (length c.args.word.now) 10 (omega arith))
