@@ -1,34 +1,29 @@
 // The words of a join: `POSITIVE NEGATIVE FOLDPOS FOLDNEG INNER`.
 use endpoint::{EndpointData, InnerJoin, SidePoints};
-use printing::buffer::{Buffer, Printed};
-use printing::rows::named_row;
-use printing::words::text;
+use printing::Printer;
 
 // Prints the answer of a join that is worked.
-pub fn joined(out: &mut Buffer, p: Printed, e: EndpointData) -> Printed {
-    let positive = e.positive;
-    let negative = e.negative;
-    let inner = e.inner_join;
-    let named = text(out, p, b"join");
-    let with_positive = side(out, named, positive);
-    let with_negative = side(out, with_positive, negative);
+pub fn joined(out: &mut Printer, e: EndpointData) {
+    out.text(b"join");
+    side(out, e.positive);
+    side(out, e.negative);
     let flags = [
         b' ',
         bit(e.fold_positive),
         b' ',
         bit(e.fold_negative),
         b' ',
-        inner_side(inner),
+        inner_side(e.inner_join),
         b'\n',
     ];
-    text(out, with_negative, &flags)
+    out.text(&flags);
 }
 
 // `S X Y` or `P X0 Y0 X1 Y1`.
-fn side(out: &mut Buffer, p: Printed, points: SidePoints) -> Printed {
+fn side(out: &mut Printer, points: SidePoints) {
     match points {
-        SidePoints::Single(x, y) => named_row(out, p, b" S", &[x, y]),
-        SidePoints::Pair(x0, y0, x1, y1) => named_row(out, p, b" P", &[x0, y0, x1, y1]),
+        SidePoints::Single(x, y) => out.named_row(b" S", &[x, y]),
+        SidePoints::Pair(x0, y0, x1, y1) => out.named_row(b" P", &[x0, y0, x1, y1]),
     }
 }
 
@@ -41,7 +36,6 @@ fn inner_side(i: InnerJoin) -> u8 {
     match i {
         InnerJoin::Neither => b'-',
         InnerJoin::Positive => b'0',
-        InnerJoin::Negative => b'1',
-        InnerJoin::Both => b'1',
+        InnerJoin::Negative | InnerJoin::Both => b'1',
     }
 }

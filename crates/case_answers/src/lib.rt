@@ -2,11 +2,10 @@
 #![tactic(auto)]
 
 pub mod cap_case;
-pub mod float_lists;
 pub mod join_case;
 mod join_words;
 pub mod lent;
+pub mod list_words;
 pub mod normal_case;
-pub mod number_lists;
 mod reads;
 pub mod root_case;

@@ -1,48 +1,24 @@
 // Points and endpoints, read from a line.
-use lines::floats::read;
-use lines::words::Place;
+use lines::words::{BadLine, Words};
 use plane::vector::Point;
 
-// A point that stood in a line, and the place after it: Lost where it was none.
-#[derive(Drop)]
-pub struct PointRead {
-    pub point: Point,
-    pub rest: Place,
-}
-
-// An endpoint's place and advancement that stood in a line, and the place after them.
-#[derive(Drop)]
-pub struct EndRead {
+// An endpoint's place and advancement.
+#[derive(Clone, Copy)]
+pub struct End {
     pub point: Point,
     pub advancement: f32,
-    pub rest: Place,
 }
 
 // X Y
-pub fn read_point(line: &[u8], place: Place) -> PointRead {
-    let x = read(line, place);
-    let after_x = x.rest;
-    let y = read(line, after_x);
-    let rest = y.rest;
-    PointRead {
-        point: Point {
-            x: x.value,
-            y: y.value,
-        },
-        rest,
-    }
+pub fn read_point(words: &mut Words) -> Result<Point, BadLine> {
+    let x = words.float()?;
+    let y = words.float()?;
+    Ok(Point { x, y })
 }
 
 // X Y A
-pub fn read_end(line: &[u8], place: Place) -> EndRead {
-    let at = read_point(line, place);
-    let point = at.point;
-    let after_point = at.rest;
-    let a = read(line, after_point);
-    let rest = a.rest;
-    EndRead {
-        point,
-        advancement: a.value,
-        rest,
-    }
+pub fn read_end(words: &mut Words) -> Result<End, BadLine> {
+    let point = read_point(words)?;
+    let advancement = words.float()?;
+    Ok(End { point, advancement })
 }

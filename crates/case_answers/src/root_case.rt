@@ -1,15 +1,11 @@
 // `root X`, answered `root NUMBER PLACE ROOT`.
-use lines::floats::read;
-use lines::words::{Place, is_end};
-use printing::buffer::{Buffer, Printed};
-use printing::replies::{bad_line, float_answer};
+use lines::words::{BadLine, Words};
+use printing::Printer;
 
-pub fn answer(line: &[u8], place: Place, out: &mut Buffer, p: Printed) -> Printed {
-    let x = read(line, place);
-    let rest = x.rest;
-    if !is_end(rest) {
-        return bad_line(out, p);
-    }
-    let a = root::answer_of(root::root(x.value));
-    float_answer(out, p, b"root", a.number, a.place, &[a.value])
+pub fn answer(words: &mut Words, out: &mut Printer) -> Result<(), BadLine> {
+    let x = words.float()?;
+    words.end()?;
+    let a = root::answer_of(root::root(x));
+    out.float_answer(b"root", a.number, a.place, &[a.value]);
+    Ok(())
 }

@@ -2,31 +2,38 @@
 // VERTEXLIST SOURCELIST TRIANGLELIST`.
 #![tactic(auto)]
 
-mod call;
 pub mod front;
-pub mod path_words;
 
-use crate::call::answer_mesh;
-use crate::front::{DASH_ROOM, read_front};
-use crate::path_words::{COORD_ROOM, VERB_ROOM, read_path};
-use lines::words::{Place, is_end};
-use printing::buffer::{Buffer, Printed};
-use printing::replies::bad_line;
+use crate::front::{
+    COORD_ROOM, DASH_ROOM, SOURCE_ROOM, TRIANGLE_ROOM, VERB_ROOM, VERTEX_ROOM, read_options,
+};
+use case_answers::lent::lend;
+use case_answers::list_words::{read_byte_list, read_float_list};
+use lines::words::{BadLine, Words};
+use mesh::answer::mesh_answer_of;
+use mesh::tessellate;
+use printing::Printer;
 
-// The whole line is read before the call is made.
-pub fn answer(line: &[u8], place: Place, out: &mut Buffer, p: Printed) -> Printed {
-    let mut verbs = [0u8; VERB_ROOM];
-    let mut coords = [0.0f32; COORD_ROOM];
+// The whole line is read before the call is made. Of the rooms, the call is lent as much as the line asks for.
+pub fn answer(words: &mut Words, out: &mut Printer) -> Result<(), BadLine> {
+    let options = read_options(words)?;
     let mut lengths = [0.0f32; DASH_ROOM];
-    let front = read_front(line, place, &mut lengths);
-    let after_front = front.rest;
-    let path = read_path(line, after_front, &mut verbs, &mut coords);
-    let rest = path.rest;
-    if !is_end(rest) {
-        return bad_line(out, p);
-    }
-    let n = path.verbs;
-    let m = path.coords;
-    let k = front.dashes;
-    answer_mesh(out, p, front, &verbs[..n], &coords[..m], &lengths[..k])
+    let lengths = read_float_list(words, &mut lengths)?;
+    let mut v = [0.0f32; VERTEX_ROOM];
+    let v = lend(words, &mut v)?;
+    let mut s = [0u32; SOURCE_ROOM];
+    let s = lend(words, &mut s)?;
+    let mut t = [0u32; TRIANGLE_ROOM];
+    let t = lend(words, &mut t)?;
+    let mut verbs = [0u8; VERB_ROOM];
+    let verbs = read_byte_list(words, &mut verbs)?;
+    let mut coords = [0.0f32; COORD_ROOM];
+    let coords = read_float_list(words, &mut coords)?;
+    words.end()?;
+    let a = mesh_answer_of(tessellate(verbs, coords, options, lengths, v, s, t));
+    out.head(b"mesh", a.number, a.place as u64);
+    out.number(a.vertices as u64);
+    out.number(a.triangles as u64);
+    out.mesh_lists(v, s, t);
+    Ok(())
 }

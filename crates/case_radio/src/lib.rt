@@ -2,35 +2,52 @@
 // `radio NUMBER PLACE VERBS COORDS VERBLIST COORDLIST ANSWERS`, of the closing call that ends the line, then the numbers of the others.
 #![tactic(auto)]
 
-mod call;
 mod calls;
+mod closes;
 
-use crate::call::{COORD_ROOM, VERB_ROOM, answer_radio};
-use crate::calls::are_calls;
-use lines::numbers::{read, read_up_to};
-use lines::words::Place;
-use printing::buffer::{Buffer, Printed};
-use printing::replies::bad_line;
+use crate::calls::read_call;
+use crate::closes::Closes;
+use case_answers::lent::lend;
+use lines::words::{BadLine, Words};
+use printing::Printer;
+use radio::answer::report_of;
+use radio::{close, start, take};
 
-// A call out of form makes the whole line bad, so all of them are read before the first is made.
-pub fn answer(line: &[u8], place: Place, out: &mut Buffer, p: Printed) -> Printed {
-    let v = read_up_to(line, place, VERB_ROOM as u64);
-    let after_v = v.rest;
-    let c = read_up_to(line, after_v, COORD_ROOM as u64);
-    let after_c = c.rest;
-    let n = read(line, after_c);
-    let count = n.value;
-    let first = n.rest;
-    if !are_calls(line, first, count) {
-        return bad_line(out, p);
+// The longest lists that a line may ask for.
+const VERB_ROOM: usize = 4200;
+
+const COORD_ROOM: usize = 8400;
+
+// A line has at most 262,144 bytes, and a byte of a fragment takes two of them.
+const FRAGMENT_ROOM: usize = 131072;
+
+// The calls are made as they are read, and the whole line is read before a word is printed. Of the rooms, the calls are lent as much as the line asks for.
+pub fn answer(words: &mut Words, out: &mut Printer) -> Result<(), BadLine> {
+    let mut verbs = [0u8; VERB_ROOM];
+    let verbs = lend(words, &mut verbs)?;
+    let mut coords = [0.0f32; COORD_ROOM];
+    let coords = lend(words, &mut coords)?;
+    let mut fragment = [0u8; FRAGMENT_ROOM];
+    let mut radio = start();
+    let mut closes = Closes::new();
+    for _ in 0..words.number()? {
+        match read_call(words, &mut fragment)? {
+            Some(heard) => radio = take(radio, heard, verbs, coords).radio,
+            None => {
+                let c = close(radio, verbs, coords);
+                radio = c.radio;
+                closes.push(report_of(c.report).number);
+            }
+        }
     }
-    answer_radio(
-        out,
-        p,
-        v.value as usize,
-        c.value as usize,
-        line,
-        first,
-        count,
-    )
+    words.end()?;
+    let a = report_of(close(radio, verbs, coords).report);
+    out.head(b"radio", a.number, a.place as u64);
+    out.number(a.verbs as u64);
+    out.number(a.coords as u64);
+    out.byte_list(verbs);
+    out.float_list(coords);
+    out.number_list(closes.all());
+    out.line_end();
+    Ok(())
 }

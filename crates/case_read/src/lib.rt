@@ -1,30 +1,36 @@
 // The answer to `read VERBLEN COORDLEN TEXT`: `read NUMBER PLACE VERBS COORDS VERBLIST COORDLIST`.
 #![tactic(auto)]
 
-mod call;
+use case_answers::lent::lend;
+use case_answers::list_words::read_byte_list;
+use lines::words::{BadLine, Words};
+use printing::Printer;
+use reader::answer::read_answer_of;
+use reader::read;
 
-use crate::call::{COORD_ROOM, VERB_ROOM, answer_read};
-use lines::byte_lists::read;
-use lines::numbers::read_up_to;
-use lines::words::{Place, is_end};
-use printing::buffer::{Buffer, Printed};
-use printing::replies::bad_line;
+// The longest lists that a line may ask for.
+const VERB_ROOM: usize = 4200;
+
+const COORD_ROOM: usize = 8400;
 
 // A line has at most 262,144 bytes, and a byte of the text takes two of them.
 const TEXT_ROOM: usize = 131072;
 
-// The whole line is read before the call is made.
-pub fn answer(line: &[u8], place: Place, out: &mut Buffer, p: Printed) -> Printed {
+// The whole line is read before the call is made. Of the rooms, the call is lent as much as the line asks for.
+pub fn answer(words: &mut Words, out: &mut Printer) -> Result<(), BadLine> {
+    let mut verbs = [0u8; VERB_ROOM];
+    let verbs = lend(words, &mut verbs)?;
+    let mut coords = [0.0f32; COORD_ROOM];
+    let coords = lend(words, &mut coords)?;
     let mut text = [0u8; TEXT_ROOM];
-    let v = read_up_to(line, place, VERB_ROOM as u64);
-    let after_v = v.rest;
-    let c = read_up_to(line, after_v, COORD_ROOM as u64);
-    let after_c = c.rest;
-    let t = read(line, after_c, &mut text);
-    let rest = t.rest;
-    if !is_end(rest) {
-        return bad_line(out, p);
-    }
-    let n = t.count;
-    answer_read(out, p, v.value as usize, c.value as usize, &text[..n])
+    let text = read_byte_list(words, &mut text)?;
+    words.end()?;
+    let a = read_answer_of(read(text, verbs, coords));
+    out.head(b"read", a.number, a.place as u64);
+    out.number(a.verbs as u64);
+    out.number(a.coords as u64);
+    out.byte_list(verbs);
+    out.float_list(coords);
+    out.line_end();
+    Ok(())
 }

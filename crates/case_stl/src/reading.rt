@@ -1,24 +1,28 @@
 // `stlread CORNERLEN BYTES`, answered `stlread NUMBER PLACE CORNERS CORNERLIST`.
-use crate::read_call::{CORNER_ROOM, answer_read};
-use lines::byte_lists::read;
-use lines::numbers::read_up_to;
-use lines::words::{Place, is_end};
-use printing::buffer::{Buffer, Printed};
-use printing::replies::bad_line;
+use case_answers::lent::lend;
+use case_answers::list_words::read_byte_list;
+use lines::words::{BadLine, Words};
+use printing::Printer;
+use stl_read::answer::corners_answer_of;
+use stl_read::stl_read;
+
+// The longest list that a line may ask for.
+const CORNER_ROOM: usize = 81920;
 
 // A line has at most 262,144 bytes, and a byte of the file takes two of them.
 const FILE_ROOM: usize = 131072;
 
-// The whole line is read before the call is made.
-pub fn answer(line: &[u8], place: Place, out: &mut Buffer, p: Printed) -> Printed {
+// The whole line is read before the call is made. Of the room, the call is lent as much as the line asks for.
+pub fn answer(words: &mut Words, out: &mut Printer) -> Result<(), BadLine> {
+    let mut corners = [0.0f32; CORNER_ROOM];
+    let corners = lend(words, &mut corners)?;
     let mut file = [0u8; FILE_ROOM];
-    let c = read_up_to(line, place, CORNER_ROOM as u64);
-    let after_c = c.rest;
-    let f = read(line, after_c, &mut file);
-    let rest = f.rest;
-    if !is_end(rest) {
-        return bad_line(out, p);
-    }
-    let n = f.count;
-    answer_read(out, p, c.value as usize, &file[..n])
+    let file = read_byte_list(words, &mut file)?;
+    words.end()?;
+    let a = corners_answer_of(stl_read(file, corners));
+    out.head(b"stlread", a.number, a.place as u64);
+    out.number(a.count as u64);
+    out.float_list(corners);
+    out.line_end();
+    Ok(())
 }

@@ -1,35 +1,33 @@
 // `stlwrite BYTELEN VERTICES TRIANGLES`, answered `stlwrite NUMBER PLACE BYTES BYTELIST`.
-use crate::write_call::{BYTE_ROOM, answer_write};
-use case_answers::float_lists::read_float_list;
-use case_answers::number_lists::read_number_list;
-use lines::numbers::read_up_to;
-use lines::words::{Place, is_end};
+use case_answers::lent::lend;
+use case_answers::list_words::{read_float_list, read_number_list};
+use lines::words::{BadLine, Words};
 use pieces::Index;
-use printing::buffer::{Buffer, Printed};
-use printing::replies::bad_line;
+use printing::Printer;
+use stl_write::answer::written_answer_of;
+use stl_write::stl_write;
+
+// The longest list that a line may ask for.
+const BYTE_ROOM: usize = 131072;
 
 // A line has at most 262,144 bytes; with the space before it a float takes nine of them and a number at least two.
 const FLOAT_ROOM: usize = 32768;
 
 const NUMBER_ROOM: usize = 131072;
 
-// Any number that an `Index` holds.
-const NUMBER_MOST: u32 = 4294967295;
-
-// The whole line is read before the call is made.
-pub fn answer(line: &[u8], place: Place, out: &mut Buffer, p: Printed) -> Printed {
+// The whole line is read before the call is made. Of the room, the call is lent as much as the line asks for.
+pub fn answer(words: &mut Words, out: &mut Printer) -> Result<(), BadLine> {
+    let mut file = [0u8; BYTE_ROOM];
+    let file = lend(words, &mut file)?;
     let mut vertices = [0.0f32; FLOAT_ROOM];
+    let vertices = read_float_list(words, &mut vertices)?;
     let mut triangles: [Index; NUMBER_ROOM] = [0; NUMBER_ROOM];
-    let b = read_up_to(line, place, BYTE_ROOM as u64);
-    let after_b = b.rest;
-    let v = read_float_list(line, after_b, &mut vertices);
-    let after_v = v.rest;
-    let t = read_number_list(line, after_v, NUMBER_MOST, &mut triangles);
-    let rest = t.rest;
-    if !is_end(rest) {
-        return bad_line(out, p);
-    }
-    let n = v.count;
-    let m = t.count;
-    answer_write(out, p, b.value as usize, &vertices[..n], &triangles[..m])
+    let triangles = read_number_list(words, Index::MAX, &mut triangles)?;
+    words.end()?;
+    let a = written_answer_of(stl_write(vertices, triangles, file));
+    out.head(b"stlwrite", a.number, a.place as u64);
+    out.number(a.count as u64);
+    out.byte_list(file);
+    out.line_end();
+    Ok(())
 }

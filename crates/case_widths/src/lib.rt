@@ -1,4 +1,4 @@
-// The answers to `widen` and `narrow` lines. What a line has is read and printed as u32; a u16 list is made of it, and made it again, by the calls themselves.
+// The answers to `widen` and `narrow` lines. What a line has is read and printed as u32; the calls themselves make a u16 list of it, and the other way.
 #![tactic(auto)]
 
 pub mod narrowing;

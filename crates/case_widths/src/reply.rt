@@ -1,10 +1,5 @@
 // What both kinds of line share.
-ghost use Rattle.std.specs.Prelude.{◌≤◌, length};
-
-use printing::buffer::{Buffer, Printed};
-use printing::replies::head;
-use printing::rows::number_list;
-use printing::words::{line_end, number};
+use printing::Printer;
 use widths::answer::ListedAnswer;
 
 // A line has at most 262,144 bytes, and a number takes at least two of them, with the space before it.
@@ -14,11 +9,9 @@ pub const NUMBER_ROOM: usize = 131072;
 pub const LIST_ROOM: usize = 49152;
 
 // The answer, and the lent list after the call.
-pub fn answered(out: &mut Buffer, p: Printed, kind: &[u8], a: ListedAnswer, list: &[u32]) -> Printed
-    requires { length kind.now ≤ 32 }
-{
-    let headed = head(out, p, kind, a.number, a.place as u64);
-    let counted = number(out, headed, a.count as u64);
-    let listed = number_list(out, counted, list);
-    line_end(out, listed)
+pub fn answered(out: &mut Printer, kind: &[u8], a: ListedAnswer, list: &[u32]) {
+    out.head(kind, a.number, a.place as u64);
+    out.number(a.count as u64);
+    out.number_list(list);
+    out.line_end();
 }

@@ -1,10 +1,8 @@
 // Calls of the window, as words have them: `pK`, `rK`, `c`, `gI` and `n`.
-ghost use Rattle.std.specs.Prelude.{◌≤◌};
+use lines::numbers::parse;
+use lines::words::{BadLine, Words};
 
-use lines::numbers::{Number, parse};
-use lines::words::{Place, next_word};
-
-#[derive(Drop)]
+#[derive(Clone, Copy)]
 pub enum Op {
     Push(u32),
     Replace(u32),
@@ -13,75 +11,24 @@ pub enum Op {
     Count,
 }
 
-#[derive(Drop)]
-enum Parsed {
-    Call(Op),
-    Bad,
+pub fn read_op(words: &mut Words) -> Result<Op, BadLine> {
+    op_of(words.word()?).ok_or(BadLine)
 }
 
-// A call that stood in a line, and the place after it: Lost where it was none.
-#[derive(Drop)]
-pub struct OpRead {
-    pub op: Op,
-    pub rest: Place,
-}
-
-// The call at a place of a line.
-pub fn read_op(line: &[u8], place: Place) -> OpRead {
-    let w = next_word(line, place);
-    let start = w.start;
-    let end = w.end;
-    let rest = w.rest;
-    match op_of(&line[start..end]) {
-        Parsed::Call(op) => OpRead { op, rest },
-        Parsed::Bad => OpRead {
-            op: Op::Count,
-            rest: Place::Lost,
-        },
+fn op_of(word: &[u8]) -> Option<Op> {
+    match word {
+        b"c" => Some(Op::Clear),
+        b"n" => Some(Op::Count),
+        [b'p', k @ ..] => Some(Op::Push(number_up_to(9999, k)?)),
+        [b'r', k @ ..] => Some(Op::Replace(number_up_to(9999, k)?)),
+        [b'g', i @ ..] => Some(Op::Get(number_up_to(9, i)?)),
+        _ => None,
     }
 }
 
-fn op_of(word: &[u8]) -> Parsed {
-    if word.len() < 1 {
-        return Parsed::Bad;
-    }
-    let letter = word[0];
-    if word.len() == 1 {
-        return bare_op(letter);
-    }
-    match parse(&word[1..]) {
-        Number::Value(n) => numbered_op(letter, n),
-        Number::Bad => Parsed::Bad,
-    }
-}
-
-fn bare_op(letter: u8) -> Parsed {
-    match letter {
-        b'c' => Parsed::Call(Op::Clear),
-        b'n' => Parsed::Call(Op::Count),
-        _ => Parsed::Bad,
-    }
-}
-
-fn numbered_op(letter: u8, n: u64) -> Parsed {
-    if most(letter) < n {
-        return Parsed::Bad;
-    }
-    let k = n as u32;
-    match letter {
-        b'p' => Parsed::Call(Op::Push(k)),
-        b'r' => Parsed::Call(Op::Replace(k)),
-        b'g' => Parsed::Call(Op::Get(k)),
-        _ => Parsed::Bad,
-    }
-}
-
-// The largest number behind a letter.
-fn most(letter: u8) -> u64
-    ensures { result ≤ 9999 }
-{
-    match letter {
-        b'g' => 9,
-        _ => 9999,
+fn number_up_to(most: u32, digits: &[u8]) -> Option<u32> {
+    match parse(digits) {
+        Some(n) if n <= u64::from(most) => Some(n as u32),
+        _ => None,
     }
 }

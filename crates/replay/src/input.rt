@@ -1,110 +1,78 @@
 // Standard input, read by chunks and taken apart into lines, of any number and any length.
 use crate::cases::answer;
-use printing::buffer::{Buffer, Printed, flushed, nothing};
-use printing::replies::bad_line;
+use lines::words::BadLine;
+use printing::Printer;
 use std::io::{Read, Stdin, Stdout};
 
 // The room for a line: a longer one is a bad line.
-pub const ROOM: usize = 262144;
-
-pub type Line = [u8; ROOM];
+const ROOM: usize = 262144;
 
 // What one read takes at most.
 const CHUNK: usize = 65536;
 
-// How many bytes of the line that is being read are held, or one more than its room where it is
-// longer than that; and what was printed.
-#[derive(Clone, Copy)]
-struct Reading {
+// The line that is being read, and how many bytes of it are held, or one more than its room where it is longer than that.
+#[derive(Drop)]
+struct Line {
+    bytes: [u8; ROOM],
     held: usize,
-    printed: Printed,
 }
 
 // A proved loop has to end, and nothing says that the input does: so the loop counts its turns, up to
-// a number that no run uses up.
-pub fn answer_all(from: Stdin, to: Stdout, line: &mut Line, out: &mut Buffer) {
-    let mut reading = Reading {
+// a number that no run uses up. A read that fails ends the input, and nothing is answered after a write that failed.
+pub fn answer_all(mut from: Stdin, to: Stdout) {
+    let mut line = Line {
+        bytes: [0; ROOM],
         held: 0,
-        printed: nothing(to),
     };
-    for _ in 0..u64::MAX {
-        if !is_open(reading) {
-            break;
-        }
-        reading = turn(from, line, out, reading);
-    }
-}
-
-fn is_open(r: Reading) -> bool {
-    let p = r.printed;
-    p.open
-}
-
-// Reads once, and answers the lines that end in what came. A read that fails ends the input.
-fn turn(mut from: Stdin, line: &mut Line, out: &mut Buffer, r: Reading) -> Reading {
+    let mut out = Printer::new(to);
     let mut chunk = [0u8; CHUNK];
-    match from.read(&mut chunk) {
-        Ok(n) if n > 0 => taken(line, out, r, &chunk[..n]),
-        _ => ended(line, out, r),
+    for _ in 0..u64::MAX {
+        match from.read(&mut chunk) {
+            Ok(n) if n > 0 => line.take(&chunk[..n], &mut out),
+            _ => break,
+        }
+        if !out.is_open() {
+            return;
+        }
     }
+    line.end_input(&mut out);
+    out.flush();
 }
 
-// At the end of the input: what is held is a line too, though no line feed ends it.
-fn ended(line: &Line, out: &mut Buffer, r: Reading) -> Reading {
-    let held = r.held;
-    let mut p = r.printed;
-    if held > 0 {
-        p = line_ended(line, out, held, p);
+impl Line {
+    // Takes the bytes of a chunk. A line feed ends the line.
+    fn take(&mut self, chunk: &[u8], out: &mut Printer) {
+        for b in chunk {
+            match *b {
+                b'\n' => self.end(out),
+                b => self.hold(b),
+            }
+        }
     }
-    flushed(out, p);
-    Reading {
-        held: 0,
-        printed: Printed {
-            waiting: 0,
-            open: false,
-            to: p.to,
-        },
-    }
-}
 
-// Takes the bytes of a chunk, one by one.
-fn taken(line: &mut Line, out: &mut Buffer, r: Reading, chunk: &[u8]) -> Reading {
-    let mut reading = r;
-    for b in chunk {
-        reading = byte_taken(line, out, reading, *b);
+    // Holds a byte, as far as there is room.
+    fn hold(&mut self, b: u8) {
+        if self.held < ROOM {
+            self.bytes[self.held] = b;
+            self.held += 1;
+        } else {
+            self.held = ROOM + 1;
+        }
     }
-    reading
-}
 
-// A line feed ends the line. Any other byte is held, as far as there is room.
-fn byte_taken(line: &mut Line, out: &mut Buffer, r: Reading, b: u8) -> Reading {
-    let held = r.held;
-    let p = r.printed;
-    if b == b'\n' {
-        let q = line_ended(line, out, held, p);
-        return Reading {
-            held: 0,
-            printed: q,
-        };
+    // Answers the line of the bytes that are held.
+    fn end(&mut self, out: &mut Printer) {
+        let line = self.bytes.get(..self.held).ok_or(BadLine);
+        if line.and_then(|line| answer(line, out)).is_err() {
+            out.text(b"bad line\n");
+        }
+        self.held = 0;
     }
-    if held < ROOM {
-        line[held] = b;
-        return Reading {
-            held: held + 1,
-            printed: p,
-        };
-    }
-    Reading {
-        held: ROOM + 1,
-        printed: p,
-    }
-}
 
-// Answers the line of the bytes that are held.
-fn line_ended(line: &[u8], out: &mut Buffer, held: usize, p: Printed) -> Printed {
-    if held <= line.len() {
-        answer(&line[0..held], out, p)
-    } else {
-        bad_line(out, p)
+    // At the end of the input: what is held is a line too, though no line feed ends it.
+    fn end_input(&mut self, out: &mut Printer) {
+        if self.held > 0 {
+            self.end(out);
+        }
     }
 }
