@@ -31,7 +31,9 @@ use Rattle.along.specs.declared.Pass.{Pass}
 use Rattle.run.specs.Run.{round_of, shape_vertices, shape_triangles, shape_piece, DrawFits, Draws}
 use Rattle.run.proofs.Whole.{round_shallow}
 use Rattle.runs.specs.Cut.{KeptTo, Cut, Seconds}
-use Rattle.runs.specs.declared.cut.Second.{Second}
+use Rattle.kept.specs.declared.points.Points.{Points}
+use Rattle.kept.specs.declared.points.Kept.{Kept}
+use Rattle.kept.specs.Held.{points_of, run_of}
 use Rattle.runs.specs.Runs.{cut_of, CutsFew, drawn_of, mesh_vertices, mesh_triangles, mesh_piece}
 use Rattle.runs.proofs.Lines.{two_kept, lines_piece_lem}
 
@@ -58,25 +60,25 @@ module _ (limit : Float) (p : List Float) (first : ℕ) where
         go (x ∷ []) h = none (ltb 0 (length ds))
         go (x ∷ y ∷ p) h = absurd (omega arith)
 
-    module _ (to i : ℕ) (few : first + length p < id_limit) (some : 0 < length ds) (k : KeptTo limit p first closed to) (f : FirstFar limit (take to p) first i) where
-      part : length (take to p) ≡ to
-      part = length-take-le to p k.end
+    module _ (to : ℕ) (some : 0 < length ds) (e : KeptTo limit p first closed to) where
+      module _ (points : Points) (ec : points.coords.now ≡ take to p) (ef : points.first ≡ record { 0 = first }) where
+        two : 2 ≤ length points.coords.now
+        two = rw ec (let part = length-take-le to p e.end in omega (arith, part, e.least))
 
-      two : 2 ≤ length (take to p)
-      two = omega (arith, part, k.least)
+        kept_is : kept_points limit closed (endpoints_of first p) ≡ kept_points limit false (points_of points)
+        kept_is = rw (ec, ef) e.kept
 
-      cut_here : i < to / 2 → Cut limit p first closed (record { to = to; i = i })
-      cut_here h = record {
-        end = k.end;
-        within = record { point = omega (arith, part); few = omega (arith, part, k.end) };
-        kept = k.kept ∙ kept_far limit (take to p) first i two f (omega (arith, part));
-      }
+        pub second_none : (i : ℕ) → FirstFar limit points.coords.now points.first.0 i → length points.coords.now / 2 ≤ i → Seconds limit p first closed ds None
+        second_none i f h =
+            let alone = kept_alone limit points.coords.now points.first.0 i two f h in
+            record { cut = rw (lt-ltb 0 (length ds) some, kept_is, alone); here = tt }
 
-      pub second_here : i < to / 2 → Seconds limit p first closed ds (Some (record { to = to; i = i }))
-      second_here h = let c = cut_here h in record { cut = rw (lt-ltb 0 (length ds) some, c.kept, two_kept); here = c }
-
-      pub second_none : to / 2 ≤ i → Seconds limit p first closed ds None
-      second_none h = let alone = kept_alone limit (take to p) first i two f (omega (arith, part)) in record { cut = rw (lt-ltb 0 (length ds) some, k.kept, alone); here = tt }
+      pub second_here : (k : Kept) → k.points.coords.now ≡ take to p → k.points.first ≡ record { 0 = first } → FirstFar limit k.points.coords.now k.points.first.0 k.second
+          → Seconds limit p first closed ds (Some k)
+      second_here k ec ef f =
+          let far = kept_far limit k.points.coords.now k.points.first.0 k.second (two k.points ec ef) f (omega (arith, k.within)) in
+          let c : kept_points limit closed (endpoints_of first p) ≡ run_of limit k = kept_is k.points ec ef ∙ far in
+          record { cut = rw (lt-ltb 0 (length ds) some, c, two_kept); here = c }
 
 -- ---- what is drawn
 module _ (o : Stroke) (ds : List Float) (r : Run Endpoint) where
@@ -119,24 +121,24 @@ module _ (pass : Pass) (ds p : List Float) (first : ℕ) (closed : Bool) where
   whole base = mesh_piece o (from base) (cut_of o ds (run ∷ []))
 
   -- cut
-  module _ {s : Second} (e : Seconds pass.stroke.near p first closed ds (Some s)) {r : Round} (er : r ≡ round_of o) where
+  module _ {k : Kept} (e : Seconds pass.stroke.near p first closed ds (Some k)) {r : Round} (er : r ≡ round_of o) where
     abbrev found : List Endpoint
-    found = run_from o.near (take s.to p) first s.i
+    found = run_of o.near k
 
     is_cut_lem : is_cut ds (kept_points o.near closed (endpoints_of first p)) ≡ true
     is_cut_lem = sym e.cut
 
     dashes_are : (base : VertexId) → run_piece o r base closed ds o.offset found ≡ whole base
-    dashes_are base = rw (er, ← e.here.kept) (cut_piece o ds run base is_cut_lem)
+    dashes_are base = rw (er, ← e.here) (cut_piece o ds run base is_cut_lem)
 
     pub dashes_few : CutsFew o ds (run ∷ []) → (0 < length ds) × (run_cuts closed ds o.offset found ≤ cut_limit) × (r.detail ≤ 6)
-    dashes_few f = let some = cut_some o ds run is_cut_lem in (some, rw e.here.kept at (cut_few o ds run some f), round_shallow o er)
+    dashes_few f = let some = cut_some o ds run is_cut_lem in (some, rw e.here at (cut_few o ds run some f), round_shallow o er)
 
     module _ {base : VertexId} {l : Lists} where
       pub dashes_fit : Fits pass.write (from base) (whole base) l → Fits pass.write (from base) (run_piece o r base closed ds o.offset found) l
       dashes_fit f = rw (dashes_are base) f
 
-      pub dashes_drawn : {l' : Lists} {k : Place} → Passes pass.write (from base) (run_piece o r base closed ds o.offset found) l l' k → Passes pass.write (from base) (whole base) l l' k
+      pub dashes_drawn : {l' : Lists} {q : Place} → Passes pass.write (from base) (run_piece o r base closed ds o.offset found) l l' q → Passes pass.write (from base) (whole base) l l' q
       dashes_drawn f = rw (dashes_are base) at f
 
   -- or not

@@ -1,11 +1,10 @@
 -- Where a run's kept points end and its second stands, if it is cut. Assumes nothing.
 use Rattle.std.specs.Prelude.{ℕ, ◌≤◌, ◌≡◌, Bool, false, List, Float, length, take, Option, is_some, IfSome}
 use Rattle.kept.specs.Kept.{kept_points}
-use Rattle.kept.specs.Looks.{run_from}
 use Rattle.kept.specs.Points.{endpoints_of}
-use Rattle.along.specs.Strips.{Within}
+use Rattle.kept.specs.Held.{run_of}
+use Rattle.kept.specs.declared.points.Kept.{Kept}
 use Rattle.cuts.specs.Runs.{is_cut}
-use Rattle.runs.specs.declared.cut.Second.{Second}
 
 -- the run whose coordinates are p
 module _ (limit : Float) (p : List Float) (first : ℕ) (closed : Bool) where
@@ -16,11 +15,9 @@ module _ (limit : Float) (p : List Float) (first : ℕ) (closed : Bool) where
     pub kept : kept_points limit closed (endpoints_of first p) ≡ kept_points limit false (endpoints_of first (take to p))
 
   -- it is cut: these are its kept points
-  pub record Cut (s : Second) : Type 0 where
-    pub end : s.to ≤ length p
-    pub within : Within (take s.to p) first s.i
-    pub kept : kept_points limit closed (endpoints_of first p) ≡ run_from limit (take s.to p) first s.i
+  abbrev pub Cut : Kept → Type 0
+  Cut k = kept_points limit closed (endpoints_of first p) ≡ run_of limit k
 
-  pub record Seconds (ds : List Float) (s : Option Second) : Type 0 where
+  pub record Seconds (ds : List Float) (s : Option Kept) : Type 0 where
     pub cut : is_some s ≡ is_cut ds (kept_points limit closed (endpoints_of first p))
     pub here : IfSome s Cut

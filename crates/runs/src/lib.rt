@@ -15,7 +15,8 @@ ghost use Rattle.runs.specs.Passes.{Paired, Inside};
 
 use crate::cursor::{Cursor, moved, start};
 use crate::cut::draw_cut;
-use along::{At, Pass};
+use along::Pass;
+use kept::points::Points;
 use options::Stroke;
 use path::verbs::{END_CLOSED, names_point};
 use pieces::{Index, Place, next_vertex};
@@ -47,17 +48,17 @@ fn draw_ended(
     let a = place_of(write, 5 * g.place.vertices);
     let b = place_of(write, g.place.vertices);
     let c = place_of(write, 3 * g.place.triangles);
-    let at = At {
-        endpoint: g.first,
-        vertex: next_vertex(g.place),
+    let points = Points {
+        coords: &coords[from..to],
+        first: g.first,
     };
     let run = draw_cut(
         &mut v[a..],
         &mut src[b..],
         &mut t[c..],
         pass,
-        &coords[from..to],
-        at,
+        points,
+        next_vertex(g.place),
         verb == END_CLOSED,
         ds,
     );

@@ -11,8 +11,8 @@ draw_dashes-requires-clause-fits c = dashes_fit c.args.pass _ _ _ _ c.in-Some.en
 pub returns-in-Some : goal.returns-in-Some
 returns-in-Some c = dashes_drawn c.args.pass _ _ _ _ c.in-Some.ensures c.round_of-r.ensures c.draw_dashes.ensures
 
-pub draw_run-requires-clause-draw_fits : goal.draw_run-requires-clause-draw_fits
-draw_run-requires-clause-draw_fits c = run_fits c.args.pass _ _ _ _ c.in-None.ensures c.requires.fits
+pub draw_run-requires : goal.draw_run-requires
+draw_run-requires c = run_fits c.args.pass _ _ _ _ c.in-None.ensures c.requires.fits
 
 pub returns-in-None : goal.returns-in-None
 returns-in-None c = run_drawn c.args.pass _ _ _ _ c.in-None.ensures c.draw_run.ensures
