@@ -5,12 +5,13 @@ pub mod pen;
 pub mod stretch;
 pub mod strips;
 
-ghost use Rattle.std.specs.Prelude.{[], ◌∷◌, ◌≡◌};
+ghost use Rattle.std.specs.Prelude.{not, ◌&&◌, [], ◌∷◌, ◌≡◌};
 ghost use Rattle.joints.specs.Joint.{joint_of};
 ghost use Rattle.join.specs.Record.{counts_of};
+ghost use Rattle.kept.specs.Kept.{near};
 ghost use Rattle.pieces.specs.Piece.{lent, Lays};
 ghost use Rattle.strip.specs.Strip.{StripFits, piece_of};
-ghost use Rattle.along.specs.Points.{drops, walked, passed, to_pass};
+ghost use Rattle.along.specs.Points.{walked, passed, to_pass};
 ghost use Rattle.along.specs.Walk.{Walks, needs_of, does_of};
 ghost use Rattle.along.specs.Laws.{walk_laws};
 
@@ -73,8 +74,8 @@ impl Pen for Walk {
 
     ghost laws = { walk_laws };
 
-    fn leg(&self) -> Leg {
-        self.leg
+    fn last(&self) -> Endpoint {
+        self.leg.to
     }
 
     fn pass_kept(
@@ -86,20 +87,23 @@ impl Pen for Walk {
         ink: (),
         p: Endpoint,
     ) -> Walk {
-        let next = next_leg(pass.stroke.half_width, self.leg, p);
-        let c = pass_joint(v, src, t, pass, self.leg, self.strip, next);
+        // Copies, so that the pass keeps its own in registers: without them a point costs 6 to 12 instructions more.
+        let leg = self.leg;
+        let strip = self.strip;
+        let next = next_leg(pass.stroke.half_width, leg, p);
+        let c = pass_joint(v, src, t, pass, leg, strip, next);
         Walk {
             leg: next,
-            strip: step(self.strip, c.positive, c.negative),
+            strip: step(strip, c.positive, c.negative),
         }
     }
 }
 
-// Whether a point is dropped: it is near the last, and not sure to be kept.
-pub fn is_dropped(limit: f32, sure: bool, leg: Leg, p: Endpoint) -> bool
-    ensures { result ≡ drops limit sure leg p }
+// Whether a point is dropped: it is near the last that is kept, and not sure to be kept.
+fn is_dropped(limit: f32, sure: bool, last: Endpoint, p: Endpoint) -> bool
+    ensures { result ≡ (not sure && near limit last p) }
 {
-    !sure && is_near(limit, leg.to.position, p.position)
+    !sure && is_near(limit, last.position, p.position)
 }
 
 // The points of a stretch.

@@ -11,7 +11,6 @@ ghost use Rattle.along.specs.declared.Pass.{Pass};
 use crate::stretch::Stretch;
 use crate::{Pass, is_dropped};
 use endpoint::Endpoint;
-use joints::leg::Leg;
 use kept::points::Kept;
 use pieces::Index;
 
@@ -29,8 +28,9 @@ pub trait Pen: Drop {
 
     ghost laws: { PenLaws reached needs does };
 
-    fn leg(&self) -> Leg
-        ensures { result ≡ reached self.now };
+    // The last point that it kept. The leg is not handed out: to copy one costs a point 12 instructions.
+    fn last(&self) -> Endpoint
+        ensures { result ≡ (reached self.now).to };
 
     // The next point, which is kept.
     fn pass_kept(
@@ -60,7 +60,7 @@ fn pass_point<P: Pen>(
     requires { P.needs pass ink (keeps pass.stroke.near sure (P.reached w).to (p ∷ [])) w (lent v.old src.old t.old) }
     ensures { P.does pass ink (keeps pass.stroke.near sure (P.reached w).to (p ∷ [])) w (lent v.old src.old t.old) (lent v.new src.new t.new) result }
 {
-    if is_dropped(pass.stroke.near, sure, w.leg(), p) {
+    if is_dropped(pass.stroke.near, sure, w.last(), p) {
         return w;
     }
     w.pass_kept(v, src, t, pass, ink, p)

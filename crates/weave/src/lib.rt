@@ -38,8 +38,8 @@ impl Pen for Walk {
 
     ghost laws = { walk_laws };
 
-    fn leg(&self) -> Leg {
-        self.leg
+    fn last(&self) -> Endpoint {
+        self.leg.to
     }
 
     fn pass_kept(
@@ -51,15 +51,19 @@ impl Pen for Walk {
         r: Round,
         p: Endpoint,
     ) -> Walk {
-        let next = next_leg(pass.stroke.half_width, self.leg, p);
+        // Copies, so that the pass keeps its own in registers, as along's does.
+        let o = pass.stroke;
+        let leg = self.leg;
+        let weave = self.weave;
+        let next = next_leg(o.half_width, leg, p);
         let b = Bend {
-            joint: joint_again(pass.stroke, self.leg, next),
-            leg: self.leg,
+            joint: joint_again(o, leg, next),
+            leg,
             end: false,
         };
         Walk {
             leg: next,
-            weave: pass_bend(v, src, t, pass.write, pass.stroke, r, self.weave, b),
+            weave: pass_bend(v, src, t, pass.write, o, r, weave, b),
         }
     }
 }
