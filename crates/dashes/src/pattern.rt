@@ -16,6 +16,7 @@ pub struct Beat {
     pub at: f32,
 }
 
+// Two ranges, a line each, as their definitions are: one function that takes the least value would need a definition of its own.
 #[tactic(auto, unfolding(crate::specs::Pattern::length_in))]
 fn is_length(d: f32) -> bool
     ensures { result ≡ length_in d }

@@ -9,6 +9,7 @@ use kept::near::is_near;
 use kept::points::Points;
 
 // The last kept point of a dash, whether the dash goes on behind it, and the feed there.
+// A flag and no Option of the feed: behind a dash's last point the feed is still needed, to look for the next dash.
 #[derive(Clone, Copy)]
 pub struct Trail {
     pub last: Endpoint,
