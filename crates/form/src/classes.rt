@@ -32,8 +32,11 @@ pub enum Class {
 pub fn class_of(b: u8) -> Class
     ensures { result ≡ class_of b }
 {
+    // No arm of the match, which would try the range behind all other bytes.
+    if b'0' <= b && b <= b'9' {
+        return Class::Digit;
+    }
     match b {
-        b'0'..=b'9' => Class::Digit,
         b' ' | b'\t' | b'\n' | 0x0C | b'\r' => Class::Blank,
         b',' => Class::Comma,
         b'+' | b'-' => Class::Sign,
