@@ -5,7 +5,7 @@ use case_mesh::front::{
     COORD_ROOM, DASH_ROOM, SOURCE_ROOM, TRIANGLE_ROOM, VERB_ROOM, VERTEX_ROOM, read_options,
 };
 use lines::words::{BadLine, Words};
-use measure::answer::part_answer_of;
+use measure::answer::PartAnswer;
 use measure::part::{find_run, run_vertices};
 use mesh::tessellate;
 use printing::Printer;
@@ -26,23 +26,12 @@ pub fn answer(words: &mut Words, out: &mut Printer) -> Result<(), BadLine> {
     words.end()?;
     let mut s = [0u32; SOURCE_ROOM];
     let mut t = [0u32; TRIANGLE_ROOM];
-    tessellate(verbs, coords, options, lengths, v, &mut s, &mut t);
-    let a = part_answer_of(find_run(verbs, coords, options, lengths, run, v.len()));
-    let mut number = 0;
-    let mut place = 0;
-    let part = run_vertices(
-        verbs,
-        coords,
-        options,
-        lengths,
-        run,
-        v,
-        &mut number,
-        &mut place,
-    );
-    out.head(b"part", number, place as u64);
+    let _ = tessellate(verbs, coords, options, lengths, v, &mut s, &mut t);
+    let a = PartAnswer::from(find_run(verbs, coords, options, lengths, run, v.len()));
+    let part = run_vertices(verbs, coords, options, lengths, run, v);
+    out.head(b"part", a.number, a.place as u64);
     out.number(a.start as u64);
-    out.float_list(part);
+    out.float_list(part.unwrap_or(&[]));
     out.line_end();
     Ok(())
 }

@@ -10,7 +10,7 @@ use crate::front::{
 use case_answers::lent::lend;
 use case_answers::list_words::{read_byte_list, read_float_list};
 use lines::words::{BadLine, Words};
-use mesh::answer::mesh_answer_of;
+use mesh::answer::MeshAnswer;
 use mesh::tessellate;
 use printing::Printer;
 
@@ -30,7 +30,7 @@ pub fn answer(words: &mut Words, out: &mut Printer) -> Result<(), BadLine> {
     let mut coords = [0.0f32; COORD_ROOM];
     let coords = read_float_list(words, &mut coords)?;
     words.end()?;
-    let a = mesh_answer_of(tessellate(verbs, coords, options, lengths, v, s, t));
+    let a = MeshAnswer::from(tessellate(verbs, coords, options, lengths, v, s, t));
     out.head(b"mesh", a.number, a.place as u64);
     out.number(a.vertices as u64);
     out.number(a.triangles as u64);

@@ -32,7 +32,7 @@ pub fn answer(words: &mut Words, out: &mut Printer) -> Result<(), BadLine> {
     let mut closes = Closes::new();
     for _ in 0..words.number()? {
         match read_call(words, &mut fragment)? {
-            Some(heard) => radio = take(radio, heard, verbs, coords).radio,
+            Some(heard) => radio = take(radio, heard, verbs, coords).unwrap_or(radio),
             None => {
                 let c = close(radio, verbs, coords);
                 radio = c.radio;

@@ -5,7 +5,7 @@ use case_answers::lent::lend;
 use case_answers::list_words::read_byte_list;
 use lines::words::{BadLine, Words};
 use printing::Printer;
-use reader::answer::read_answer_of;
+use reader::answer::ReadAnswer;
 use reader::read;
 
 // The longest lists that a line may ask for.
@@ -25,7 +25,7 @@ pub fn answer(words: &mut Words, out: &mut Printer) -> Result<(), BadLine> {
     let mut text = [0u8; TEXT_ROOM];
     let text = read_byte_list(words, &mut text)?;
     words.end()?;
-    let a = read_answer_of(read(text, verbs, coords));
+    let a = ReadAnswer::from(read(text, verbs, coords));
     out.head(b"read", a.number, a.place as u64);
     out.number(a.verbs as u64);
     out.number(a.coords as u64);

@@ -3,7 +3,7 @@ use case_answers::lent::lend;
 use case_answers::list_words::read_byte_list;
 use lines::words::{BadLine, Words};
 use printing::Printer;
-use stl_read::answer::corners_answer_of;
+use stl::answer::StlAnswer;
 use stl_read::stl_read;
 
 // The longest list that a line may ask for.
@@ -19,7 +19,7 @@ pub fn answer(words: &mut Words, out: &mut Printer) -> Result<(), BadLine> {
     let mut file = [0u8; FILE_ROOM];
     let file = read_byte_list(words, &mut file)?;
     words.end()?;
-    let a = corners_answer_of(stl_read(file, corners));
+    let a = StlAnswer::from(stl_read(file, corners));
     out.head(b"stlread", a.number, a.place as u64);
     out.number(a.count as u64);
     out.float_list(corners);

@@ -4,7 +4,7 @@ use case_answers::list_words::{read_float_list, read_number_list};
 use lines::words::{BadLine, Words};
 use pieces::Index;
 use printing::Printer;
-use stl_write::answer::written_answer_of;
+use stl::answer::StlAnswer;
 use stl_write::stl_write;
 
 // The longest list that a line may ask for.
@@ -24,7 +24,7 @@ pub fn answer(words: &mut Words, out: &mut Printer) -> Result<(), BadLine> {
     let mut triangles: [Index; NUMBER_ROOM] = [0; NUMBER_ROOM];
     let triangles = read_number_list(words, Index::MAX, &mut triangles)?;
     words.end()?;
-    let a = written_answer_of(stl_write(vertices, triangles, file));
+    let a = StlAnswer::from(stl_write(vertices, triangles, file));
     out.head(b"stlwrite", a.number, a.place as u64);
     out.number(a.count as u64);
     out.byte_list(file);

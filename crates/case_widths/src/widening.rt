@@ -4,7 +4,7 @@ use case_answers::lent::lend;
 use case_answers::list_words::read_number_list;
 use lines::words::{BadLine, Words};
 use printing::Printer;
-use widths::answer::listed_answer_of;
+use widths::answer::ListedAnswer;
 use widths::{NARROW_MOST, narrow, widen};
 
 // The whole line is read before the call is made, and its numbers are made what would be stored.
@@ -15,8 +15,8 @@ pub fn answer(words: &mut Words, out: &mut Printer) -> Result<(), BadLine> {
     let numbers = read_number_list(words, NARROW_MOST, &mut numbers)?;
     words.end()?;
     let mut stored = [0u16; NUMBER_ROOM];
-    narrow(numbers, &mut stored);
-    let a = listed_answer_of(widen(&stored[..numbers.len()], list));
+    let _ = narrow(numbers, &mut stored);
+    let a = ListedAnswer::from(widen(&stored[..numbers.len()], list));
     answered(out, b"widen", a, list);
     Ok(())
 }

@@ -5,7 +5,7 @@ use lent_window::{cleared, pushed, replaced};
 use plane::vector::Point;
 use printing::Printer;
 use std::num::nearest_u32_to_f32;
-use window::answer::{change_answer_of, get_answer_of};
+use window::answer::{ChangeAnswer, GetAnswer};
 use window::buffer::PointBuffer;
 
 // Makes a call, and prints its number, and for `g` an x beside it.
@@ -18,14 +18,14 @@ pub fn call(window: &mut PointBuffer, op: Op, out: &mut Printer) {
         Op::Replace(k) => {
             let r = replaced(*window, numbered(k));
             *window = r.window;
-            out.number(u64::from(change_answer_of(r.change).number));
+            out.number(u64::from(ChangeAnswer::from(r.change).number));
         }
         Op::Clear => {
             *window = cleared(*window);
             out.number(0);
         }
         Op::Get(i) => {
-            let a = get_answer_of(window.get(i as usize));
+            let a = GetAnswer::from(window.get(i as usize));
             out.number(u64::from(a.number));
             out.text(b":");
             out.hex(a.endpoint.position.x);

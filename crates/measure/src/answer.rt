@@ -4,7 +4,7 @@ ghost use Rattle.measure.specs.Answer.{measured_answer_of, without_part, part_an
 ghost use Rattle.measure.specs.declared.answer.PartError.TheVariants.{Refused};
 
 use mesh::answer::{MeshAnswer, MeshError, MeshSize};
-use refusals::{Meaning, Refusal, verdict_of};
+use refusals::{Meaning, Refusal, Verdict};
 
 // Where a run's part of a vertex list stands: its start, and how many floats it has; both are 0 where the run drew nothing.
 #[derive(Clone, Copy)]
@@ -61,7 +61,7 @@ impl From<Result<Part, PartError>> for PartAnswer {
                 length: part.length,
             },
             Err(PartError::Refused(refusal)) => {
-                let verdict = verdict_of(refusal);
+                let verdict = Verdict::from(refusal);
                 without_part(verdict.number, verdict.place)
             }
             Err(PartError::VertexRoom) => without_part(Meaning::VertexRoom as u32, 0),

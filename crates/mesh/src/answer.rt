@@ -4,7 +4,7 @@ ghost use Rattle.mesh.specs.Answer.{mesh_answer_of, with_counts, roomed_of, Plen
 ghost use Rattle.mesh.specs.declared.answer.MeshError.TheVariants.{Refused};
 
 use pieces::Place;
-use refusals::{Meaning, Refusal, verdict_of};
+use refusals::{Meaning, Refusal, Verdict};
 
 // How many vertices and triangles a mesh has.
 #[derive(Clone, Copy)]
@@ -89,7 +89,7 @@ impl From<Result<MeshSize, MeshError>> for MeshAnswer {
         match r {
             Ok(size) => with_counts(Meaning::Accepted as u32, size),
             Err(MeshError::Refused(refusal)) => {
-                let verdict = verdict_of(refusal);
+                let verdict = Verdict::from(refusal);
                 MeshAnswer {
                     number: verdict.number,
                     place: verdict.place,

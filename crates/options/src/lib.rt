@@ -8,7 +8,7 @@ ghost use Rattle.options.specs.Options.{within, width_in, limit_in, merge_in, de
 
 use dashes::pattern::is_pattern;
 use endpoint::LineJoin;
-use refusals::{Meaning, Refusal, verdict_of};
+use refusals::{Meaning, Refusal, Verdict};
 
 // What a caller may choose. An option outside its range is refused with 1.
 #[derive(Clone, Copy)]
@@ -174,7 +174,7 @@ impl From<Result<Stroke, Refusal>> for StrokeAnswer {
                 stroke,
             },
             Err(refusal) => {
-                let verdict = verdict_of(refusal);
+                let verdict = Verdict::from(refusal);
                 StrokeAnswer {
                     number: verdict.number,
                     place: verdict.place,

@@ -12,10 +12,10 @@ ghost use Rattle.page.specs.Page.{options_of, vertex_room, source_room, triangle
 
 use crate::line::put_refused;
 use crate::mesh_lines::put_mesh;
-use mesh::answer::mesh_answer_of;
+use mesh::answer::MeshAnswer;
 use mesh::tessellate;
 use options::Options;
-use reader::answer::read_answer_of;
+use reader::answer::ReadAnswer;
 use reader::read;
 use refusals::Meaning;
 
@@ -50,7 +50,7 @@ pub fn put_page(text: &[u8], out: &mut Page) -> usize
     }
     let mut verbs = [0u8; VERB_ROOM];
     let mut coords = [0.0f32; COORD_ROOM];
-    let a = read_answer_of(read(text, &mut verbs, &mut coords));
+    let a = ReadAnswer::from(read(text, &mut verbs, &mut coords));
     if a.number != 0 {
         return put_refused(out, a.number, a.place);
     }
@@ -65,7 +65,7 @@ fn put_stroked(verbs: &[u8], coords: &[f32], out: &mut Page) -> usize
     let mut vertices = [0.0f32; VERTEX_ROOM];
     let mut sources = [0u32; SOURCE_ROOM];
     let mut triangles = [0u32; TRIANGLE_ROOM];
-    let a = mesh_answer_of(tessellate(
+    let a = MeshAnswer::from(tessellate(
         verbs,
         coords,
         options(),

@@ -8,7 +8,7 @@ ghost use Rattle.std.specs.Prelude.{◌≡◌};
 ghost use Rattle.path.specs.Path.{checked_of, check_answer_of};
 
 use coordinates::first_outside;
-use refusals::{Meaning, Refusal, Verdict, verdict_of};
+use refusals::{Meaning, Refusal, Verdict};
 use verbs::{VERB_LIMIT, scan_verbs};
 
 // All of 3 is judged before any 4.
@@ -38,6 +38,6 @@ pub fn check_answer_of(c: Result<(), Refusal>) -> Verdict
             number: Meaning::Accepted as u32,
             place: 0,
         },
-        Err(r) => verdict_of(r),
+        Err(r) => Verdict::from(r),
     }
 }

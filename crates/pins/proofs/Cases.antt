@@ -4,11 +4,11 @@ use mathlib.Core.Path.{◌≡◌, refl, sym, ap, ◌∙◌}
 use Prim.Native.Nat.{ℕ}
 use mathlib.Core.Bool.{cond}
 use lib.Dec.{eqb}
-use Rattle.std.specs.Prelude.{Result, Ok, Err}
+use Rattle.std.specs.Prelude.{Option, Some, None, Result, Ok, Err}
 use Rattle.refusals.specs.Numbers.{number_of, accepted, out_of_range, too_many_verbs, misplaced_verb, bad_coordinate, vertex_room, long_text, malformed_text, large_number, triangle_room, list_room}
 use Rattle.plane.specs.Normal.{normal_answer_of}
-use Rattle.plane.specs.declared.normal.JoinDirection.{JoinDirection}
-use Rattle.plane.specs.declared.normal.JoinDirection.TheVariants as normal
+use Rattle.plane.specs.Vector.{point}
+use Rattle.plane.specs.declared.vector.Point.{Point}
 use Rattle.plane.specs.declared.normal.NormalAnswer.{NormalAnswer}
 use Rattle.options.specs.Options.{stroke_answer_of}
 use Rattle.path.specs.Path.{check_answer_of}
@@ -24,26 +24,27 @@ use Rattle.mesh.specs.declared.answer.MeshError.{MeshError}
 use Rattle.mesh.specs.declared.answer.MeshError.TheVariants as mesh
 use Rattle.reader.specs.Answer.{read_answer_of}
 use Rattle.reader.specs.declared.answer.ReadAnswer.{ReadAnswer}
-use Rattle.reader.specs.declared.answer.Reading.{Reading}
-use Rattle.reader.specs.declared.answer.Reading.TheVariants as read
+use Rattle.reader.specs.declared.answer.PathSize.{PathSize}
+use Rattle.reader.specs.declared.answer.ReadError.{ReadError}
+use Rattle.reader.specs.declared.answer.ReadError.TheVariants as read
 use Rattle.widths.specs.Answer.{listed_answer_of}
-use Rattle.widths.specs.declared.answer.Listed.{Listed}
-use Rattle.widths.specs.declared.answer.Listed.TheVariants as list
+use Rattle.widths.specs.declared.answer.WidthError.{WidthError}
+use Rattle.widths.specs.declared.answer.WidthError.TheVariants as list
 use Rattle.widths.specs.declared.answer.ListedAnswer.{ListedAnswer}
 
 same_case : {A B : Type 0} (numbers : A → B) (back : B → A) → ((r : A) → back (numbers r) ≡ r) → (r s : A) → numbers r ≡ numbers s → r ≡ s
 same_case numbers back is r s e = sym (is r) ∙ ap back e ∙ is s
 
 -- ---- compute_normal
-direction : NormalAnswer → JoinDirection
-direction a = cond (eqb a.number (number_of accepted)) (normal.Normal a.x a.y) normal.Refused
+direction : NormalAnswer → Option Point
+direction a = cond (eqb a.number (number_of accepted)) (Some (point a.x a.y)) None
 
-direction_is : (r : JoinDirection) → direction (normal_answer_of r) ≡ r
+direction_is : (r : Option Point) → direction (normal_answer_of r) ≡ r
 unfolding direction
-direction_is (normal.Normal x y) = refl
-direction_is normal.Refused = refl
+direction_is (Some n) = refl
+direction_is None = refl
 
-pub one_direction : (r s : JoinDirection) → normal_answer_of r ≡ normal_answer_of s → r ≡ s
+pub one_direction : (r s : Option Point) → normal_answer_of r ≡ normal_answer_of s → r ≡ s
 one_direction = same_case normal_answer_of direction direction_is
 
 -- ---- refusals 1 to 4, and 26
@@ -108,33 +109,33 @@ pub one_meshed : (r s : Result MeshSize MeshError) → mesh_answer_of r ≡ mesh
 one_meshed = same_case mesh_answer_of meshed meshed_is
 
 -- ---- read
-reading : ReadAnswer → Reading
+reading : ReadAnswer → Result PathSize ReadError
 reading a =
-    cond (eqb a.number (number_of accepted)) (read.Path a.verbs a.coords)
-    (cond (eqb a.number (number_of long_text)) read.TooLong
+    cond (eqb a.number (number_of accepted)) (Ok (record { verbs = a.verbs; coords = a.coords }))
+    (Err (cond (eqb a.number (number_of long_text)) read.TooLong
     (cond (eqb a.number (number_of malformed_text)) (read.OutOfForm a.place)
-    (cond (eqb a.number (number_of large_number)) (read.TooLarge a.place) read.NoRoom)))
+    (cond (eqb a.number (number_of large_number)) (read.TooLarge a.place) read.NoRoom))))
 
-reading_is : (r : Reading) → reading (read_answer_of r) ≡ r
+reading_is : (r : Result PathSize ReadError) → reading (read_answer_of r) ≡ r
 unfolding reading
-reading_is (read.Path n m) = refl
-reading_is read.TooLong = refl
-reading_is (read.OutOfForm i) = refl
-reading_is (read.TooLarge i) = refl
-reading_is read.NoRoom = refl
+reading_is (Ok size) = refl
+reading_is (Err read.TooLong) = refl
+reading_is (Err (read.OutOfForm i)) = refl
+reading_is (Err (read.TooLarge i)) = refl
+reading_is (Err read.NoRoom) = refl
 
-pub one_reading : (r s : Reading) → read_answer_of r ≡ read_answer_of s → r ≡ s
+pub one_reading : (r s : Result PathSize ReadError) → read_answer_of r ≡ read_answer_of s → r ≡ s
 one_reading = same_case read_answer_of reading reading_is
 
 -- ---- widen and narrow
-listed : ListedAnswer → Listed
-listed a = cond (eqb a.number (number_of accepted)) (list.Numbers a.count) (cond (eqb a.number (number_of list_room)) list.ListRoom (list.WideNumber a.place))
+listed : ListedAnswer → Result ℕ WidthError
+listed a = cond (eqb a.number (number_of accepted)) (Ok a.count) (Err (cond (eqb a.number (number_of list_room)) list.ListRoom (list.WideNumber a.place)))
 
-listed_is : (r : Listed) → listed (listed_answer_of r) ≡ r
+listed_is : (r : Result ℕ WidthError) → listed (listed_answer_of r) ≡ r
 unfolding listed
-listed_is (list.Numbers n) = refl
-listed_is list.ListRoom = refl
-listed_is (list.WideNumber i) = refl
+listed_is (Ok n) = refl
+listed_is (Err list.ListRoom) = refl
+listed_is (Err (list.WideNumber i)) = refl
 
-pub one_listed : (r s : Listed) → listed_answer_of r ≡ listed_answer_of s → r ≡ s
+pub one_listed : (r s : Result ℕ WidthError) → listed_answer_of r ≡ listed_answer_of s → r ≡ s
 one_listed = same_case listed_answer_of listed listed_is

@@ -5,17 +5,14 @@ use mathlib.Core.Path.{◌≡◌, sym, ap, ◌∙◌}
 use mathlib.Core.List.{List, [], ◌∷◌, ◌++◌}
 use lib.Ieee.{Float}
 use lib.ListN.{length}
-use Rattle.std.specs.Prelude.{Result}
+use Rattle.std.specs.Prelude.{Option, Result}
 use Rattle.root.specs.Answer.{Answers, answer_of}
-use Rattle.root.specs.declared.Rooted.{Rooted}
 use Rattle.root.proofs.Laws.{one_answer, one_case}
 use Rattle.plane.specs.Normal.{normal_answer_of, compute_normal_of}
-use Rattle.plane.specs.declared.normal.JoinDirection.{JoinDirection}
 use Rattle.plane.specs.declared.vector.Point.{Point}
 use Rattle.endpoint.specs.declared.EndpointData.{EndpointData}
 use Rattle.window.specs.Answer.{get_answer_of, got_of, change_answer_of}
 use Rattle.window.specs.Window.{items, last_three, ReplacesLast}
-use Rattle.window.specs.declared.answer.Got.{Got}
 use Rattle.window.specs.declared.buffer.PointBuffer.{PointBuffer}
 use Rattle.window.specs.declared.buffer.Replaced.{Replaced}
 use Rattle.window.proofs.Laws.{one_got, one_replaced}
@@ -33,11 +30,12 @@ use Rattle.mesh.specs.declared.answer.MeshError.{MeshError}
 use Rattle.reader.specs.Answer.{read_answer_of}
 use Rattle.reader.specs.Outcome as reader
 use Rattle.reader.specs.Reads.{Reads}
-use Rattle.reader.specs.declared.answer.Reading.{Reading}
+use Rattle.reader.specs.declared.answer.PathSize.{PathSize}
+use Rattle.reader.specs.declared.answer.ReadError.{ReadError}
 use Rattle.reader.proofs.Meets.{same_outcome}
 use Rattle.widths.specs.Answer.{listed_answer_of}
 use Rattle.widths.specs.Widths as widths
-use Rattle.widths.specs.declared.answer.Listed.{Listed}
+use Rattle.widths.specs.declared.answer.WidthError.{WidthError}
 use Rattle.pins.proofs.Cases.{one_direction, one_stroked, one_checked, one_meshed, one_reading, one_listed}
 
 -- two answers have the same numbers and values, and are the same case
@@ -55,7 +53,7 @@ mesh_one verbs coords options ds l r s v1 v2 s1 s2 t1 t2 h k =
     ((n, one_meshed r s n), ap (λ (o : Outcome). o.lists.vertices) e, ap (λ (o : Outcome). o.lists.sources) e, ap (λ (o : Outcome). o.lists.triangles) e)
 
 -- ---- reader::read: the answer and both lists
-pub read_one : (text verbs : List ℕ) (coords : List Float) (r s : Reading) (v1 v2 : List ℕ) (c1 c2 : List Float)
+pub read_one : (text verbs : List ℕ) (coords : List Float) (r s : Result PathSize ReadError) (v1 v2 : List ℕ) (c1 c2 : List Float)
     → Reads text verbs coords (record { answer = read_answer_of r; verbs = v1; coords = c1 })
     → Reads text verbs coords (record { answer = read_answer_of s; verbs = v2; coords = c2 })
     → Same read_answer_of r s × (v1 ≡ v2) × (c1 ≡ c2)
@@ -65,11 +63,11 @@ read_one text verbs coords r s v1 v2 c1 c2 h k =
     ((n, one_reading r s n), ap (λ (o : reader.Outcome). o.verbs) e, ap (λ (o : reader.Outcome). o.coords) e)
 
 -- ---- root::root
-pub root_one : (x : Float) (r s : Rooted) → Answers x (answer_of r) → Answers x (answer_of s) → Same answer_of r s
+pub root_one : (x : Float) (r s : Option Float) → Answers x (answer_of r) → Answers x (answer_of s) → Same answer_of r s
 root_one x r s h k = let n = one_answer x (answer_of r) (answer_of s) h k in (n, one_case r s n)
 
 -- ---- plane::normal::compute_normal
-pub normal_one : (v1 v2 : Point) (r s : JoinDirection) → normal_answer_of r ≡ compute_normal_of v1 v2 → normal_answer_of s ≡ compute_normal_of v1 v2 → Same normal_answer_of r s
+pub normal_one : (v1 v2 : Point) (r s : Option Point) → normal_answer_of r ≡ compute_normal_of v1 v2 → normal_answer_of s ≡ compute_normal_of v1 v2 → Same normal_answer_of r s
 normal_one v1 v2 r s h k = let n = h ∙ sym k in (n, one_direction r s n)
 
 -- ---- options::stroke_of, path::check_path and cuts::check_cut_path, parts of the mesh call
@@ -84,22 +82,22 @@ pub cut_check_one : (limit : Float) (ds : List Float) (offset : Float) (verbs : 
 cut_check_one limit ds offset verbs coords r s h k = let n = h ∙ sym k in (n, one_checked r s n)
 
 -- ---- widths::widen and widths::narrow: the answer and the list
-list_one : (o : widths.Outcome) (r s : Listed) (x y : List ℕ) → record { answer = listed_answer_of r; list = x } ≡ o → record { answer = listed_answer_of s; list = y } ≡ o → Same listed_answer_of r s × (x ≡ y)
+list_one : (o : widths.Outcome) (r s : Result ℕ WidthError) (x y : List ℕ) → record { answer = listed_answer_of r; list = x } ≡ o → record { answer = listed_answer_of s; list = y } ≡ o → Same listed_answer_of r s × (x ≡ y)
 list_one o r s x y h k =
     let e = h ∙ sym k in
     let n = ap (λ (p : widths.Outcome). p.answer) e in
     ((n, one_listed r s n), ap (λ (p : widths.Outcome). p.list) e)
 
-pub widen_one : (xs ys : List ℕ) (r s : Listed) (x y : List ℕ) → record { answer = listed_answer_of r; list = x } ≡ widths.widen_of xs ys → record { answer = listed_answer_of s; list = y } ≡ widths.widen_of xs ys
+pub widen_one : (xs ys : List ℕ) (r s : Result ℕ WidthError) (x y : List ℕ) → record { answer = listed_answer_of r; list = x } ≡ widths.widen_of xs ys → record { answer = listed_answer_of s; list = y } ≡ widths.widen_of xs ys
     → Same listed_answer_of r s × (x ≡ y)
 widen_one xs ys = list_one (widths.widen_of xs ys)
 
-pub narrow_one : (xs ys : List ℕ) (r s : Listed) (x y : List ℕ) → record { answer = listed_answer_of r; list = x } ≡ widths.narrow_of xs ys → record { answer = listed_answer_of s; list = y } ≡ widths.narrow_of xs ys
+pub narrow_one : (xs ys : List ℕ) (r s : Result ℕ WidthError) (x y : List ℕ) → record { answer = listed_answer_of r; list = x } ≡ widths.narrow_of xs ys → record { answer = listed_answer_of s; list = y } ≡ widths.narrow_of xs ys
     → Same listed_answer_of r s × (x ≡ y)
 narrow_one xs ys = list_one (widths.narrow_of xs ys)
 
 -- ---- window: by value and lent alike. Two windows that hold the same endpoints answer every later call alike; which slots hold them is left open.
-pub get_one : (w : PointBuffer) (i : ℕ) (g h : Got) → get_answer_of g ≡ got_of (items w) i → get_answer_of h ≡ got_of (items w) i → Same get_answer_of g h
+pub get_one : (w : PointBuffer) (i : ℕ) (g h : Option EndpointData) → get_answer_of g ≡ got_of (items w) i → get_answer_of h ≡ got_of (items w) i → Same get_answer_of g h
 get_one w i g h p q = let n = p ∙ sym q in (n, one_got g h n)
 
 pub count_one : (w : PointBuffer) (n m : ℕ) → n ≡ length (items w) → m ≡ length (items w) → n ≡ m

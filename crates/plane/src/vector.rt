@@ -158,9 +158,3 @@ pub fn normalize(a: Point) -> Point
 {
     a / root_value(square_length(a))
 }
-
-pub fn divided(a: Point, k: f32) -> Point
-    ensures { result ≡ divided_of a k }
-{
-    a / k
-}

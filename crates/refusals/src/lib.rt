@@ -73,9 +73,3 @@ impl From<Refusal> for Verdict {
         }
     }
 }
-
-pub fn verdict_of(r: Refusal) -> Verdict
-    ensures { result ≡ verdict_of r }
-{
-    Verdict::from(r)
-}

@@ -1,4 +1,5 @@
 -- An exported call passes on what the library's call answered, turned into numbers and written over the start of the answer's list. Assumes nothing.
+use Rattle.std.specs.Prelude.{Option}
 use Prim.Native.Nat.{ℕ}
 use mathlib.Core.Path.{◌≡◌, subst, sym}
 use mathlib.Core.List.{List, [], ◌∷◌}
@@ -7,10 +8,9 @@ use Rattle.lists.specs.Over.{over}
 use Rattle.refusals.specs.declared.Verdict.{Verdict}
 use Rattle.root.specs.Answer.{Answers, answer_of}
 use Rattle.root.specs.declared.Answer.{Answer}
-use Rattle.root.specs.declared.Rooted.{Rooted}
 use Rattle.plane.specs.Normal.{normal_answer_of, compute_normal_of}
 use Rattle.plane.specs.Vector.{point}
-use Rattle.plane.specs.declared.normal.JoinDirection.{JoinDirection}
+use Rattle.plane.specs.declared.vector.Point.{Point}
 use Rattle.plane.specs.declared.normal.NormalAnswer.{NormalAnswer}
 use Rattle.options.specs.declared.Options.{Options}
 use Rattle.pieces.specs.Piece.{Lists}
@@ -40,14 +40,14 @@ pub reads_out : (text verbs : List ℕ) (coords : List Float) (answer : List ℕ
 unfolding read_out_of
 reads_out text verbs coords answer o h a e answer' w = record { outcome = o; reads = h; passed = rw (← e, w) }
 
-pub roots_out : (x : Float) (value : List Float) (r : Rooted) → Answers x (answer_of r)
+pub roots_out : (x : Float) (value : List Float) (r : Option Float) → Answers x (answer_of r)
     → (a : Answer) → a ≡ answer_of r
     → (value' : List Float) → value' ≡ over (a.value ∷ []) value
     → RootsOut x value (record { number = a.number; floats = value' })
 unfolding root_out_of
 roots_out x value r h a e value' w = record { answer = a; answers = subst (λ (b : Answer). Answers x b) (sym e) h; passed = rw w }
 
-pub normal_out : (x1 y1 x2 y2 : Float) (normal : List Float) (d : JoinDirection) → normal_answer_of d ≡ compute_normal_of (point x1 y1) (point x2 y2)
+pub normal_out : (x1 y1 x2 y2 : Float) (normal : List Float) (d : Option Point) → normal_answer_of d ≡ compute_normal_of (point x1 y1) (point x2 y2)
     → (a : NormalAnswer) → a ≡ normal_answer_of d
     → (normal' : List Float) → normal' ≡ over (a.x ∷ a.y ∷ []) normal
     → record { number = a.number; floats = normal' } ≡ normal_out_of x1 y1 x2 y2 normal

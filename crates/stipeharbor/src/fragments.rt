@@ -3,8 +3,9 @@ ghost use Rattle.std.specs.Prelude.{◌≡◌};
 ghost use Rattle.radio_words.specs.Calls.{start_of, take_of};
 ghost use Rattle.stipeharbor.specs.Fragments.{close_out_of};
 
-use crate::put::put_numbers;
-use radio_words::{close, start, take};
+use lists::put_over;
+use radio::answer::report_of;
+use radio_words::{call_number, close, start, take};
 use refusals::Meaning;
 
 // A new text. `state` gets its words; one that is too short for them is left alone, with 25.
@@ -12,7 +13,7 @@ use refusals::Meaning;
 pub extern "C" fn stipeharbor_radio_start(state: &mut [usize]) -> u32
     ensures { record { number = result; state = state.new } ≡ start_of state.old }
 {
-    start(state)
+    call_number(start(state))
 }
 
 // Takes a fragment of the text. What ends in it is put behind what was put before, as far as both lists go.
@@ -25,11 +26,12 @@ pub extern "C" fn stipeharbor_radio_take(
 ) -> u32
     ensures { record { number = result; state = state.new; verbs = verbs.new; coords = coords.new } ≡ take_of state.old fragment.now verbs.old coords.old }
 {
-    take(state, fragment, verbs, coords)
+    call_number(take(state, fragment, verbs, coords))
 }
 
 // Ends the text. `answer` gets the place, the number of verbs and the number of coordinates; 25 changes nothing.
 #[unsafe(no_mangle)]
+#[tactic(auto, unfolding(crate::specs::Fragments::close_out_of))]
 pub extern "C" fn stipeharbor_radio_close(
     state: &mut [usize],
     verbs: &mut [u8],
@@ -38,9 +40,9 @@ pub extern "C" fn stipeharbor_radio_close(
 ) -> u32
     ensures { record { number = result; answer = answer.new; state = state.new; verbs = verbs.new; coords = coords.new } ≡ close_out_of state.old verbs.old coords.old answer.old }
 {
-    let a = close(state, verbs, coords);
+    let a = report_of(close(state, verbs, coords));
     if a.number != Meaning::AfterClose as u32 {
-        put_numbers(answer, a.place, a.verbs, a.coords);
+        put_over(answer, &[a.place, a.verbs, a.coords]);
     }
     a.number
 }

@@ -4,29 +4,28 @@
 
 pub mod fragments;
 mod measuring;
-mod put;
 
 ghost use Rattle.std.specs.Prelude.{◌≡◌};
 ghost use Rattle.inspect.specs.Answer.{check_of, check_attached_of};
 ghost use Rattle.pieces.specs.Piece.{lent};
 ghost use Rattle.stipeharbor.specs.Calls.{options_of, tessellated, tessellate_out_of, normal_out_of, ReadsOut, RootsOut, stl_write_out_of, stl_read_out_of, widen_out_of, narrow_out_of, check_out_of};
 
-use crate::put::{put_float, put_number, put_numbers, put_pair, put_vector};
+use inspect::answer::verdict_of;
 use inspect::{check, check_attached};
-use mesh::answer::mesh_answer_of;
+use lists::put_over;
+use mesh::answer::MeshAnswer;
 use mesh::tessellate;
 use options::Options;
 use pieces::Index;
-use plane::normal::{compute_normal, normal_answer_of};
+use plane::normal::{NormalAnswer, compute_normal};
 use plane::vector::Point;
-use reader::answer::read_answer_of;
+use reader::answer::ReadAnswer;
 use reader::read;
-use root::{answer_of, root};
-use stl_read::answer::corners_answer_of;
+use root::{Answer, root};
+use stl::answer::StlAnswer;
 use stl_read::stl_read;
-use stl_write::answer::written_answer_of;
 use stl_write::stl_write;
-use widths::answer::listed_answer_of;
+use widths::answer::ListedAnswer;
 use widths::{narrow, widen};
 
 // The mesh call. `answer` gets the place, the number of vertices and the number of triangles.
@@ -50,18 +49,18 @@ pub extern "C" fn stipeharbor_tessellate(
     ensures { tessellated result answer.new vertices.new sources.new triangles.new ≡ tessellate_out_of verbs.now coords.now (options_of width miter_limit line_join line_cap merge_range detail dash_offset) dashes.now (lent vertices.old sources.old triangles.old) answer.old }
 {
     let options = Options {
-        width: width,
-        miter_limit: miter_limit,
-        line_join: line_join,
+        width,
+        miter_limit,
+        line_join,
         cap: line_cap,
-        merge_range: merge_range,
-        detail: detail,
+        merge_range,
+        detail,
         offset: dash_offset,
     };
-    let a = mesh_answer_of(tessellate(
+    let a = MeshAnswer::from(tessellate(
         verbs, coords, options, dashes, vertices, sources, triangles,
     ));
-    put_numbers(answer, a.place, a.vertices, a.triangles);
+    put_over(answer, &[a.place, a.vertices, a.triangles]);
     a.number
 }
 
@@ -75,8 +74,8 @@ pub extern "C" fn stipeharbor_read(
 ) -> u32
     ensures { ReadsOut text.now verbs.old coords.old answer.old (record { number = result; answer = answer.new; verbs = verbs.new; coords = coords.new }) }
 {
-    let a = read_answer_of(read(text, verbs, coords));
-    put_numbers(answer, a.place, a.verbs, a.coords);
+    let a = ReadAnswer::from(read(text, verbs, coords));
+    put_over(answer, &[a.place, a.verbs, a.coords]);
     a.number
 }
 
@@ -85,8 +84,8 @@ pub extern "C" fn stipeharbor_read(
 pub extern "C" fn stipeharbor_root(x: f32, value: &mut [f32]) -> u32
     ensures { RootsOut x value.old (record { number = result; floats = value.new }) }
 {
-    let rooted = answer_of(root(x));
-    put_float(value, rooted.value);
+    let rooted = Answer::from(root(x));
+    put_over(value, &[rooted.value]);
     rooted.number
 }
 
@@ -103,8 +102,8 @@ pub extern "C" fn stipeharbor_compute_normal(
 {
     let v1 = Point { x: x1, y: y1 };
     let v2 = Point { x: x2, y: y2 };
-    let a = normal_answer_of(compute_normal(v1, v2));
-    put_vector(normal, a.x, a.y);
+    let a = NormalAnswer::from(compute_normal(v1, v2));
+    put_over(normal, &[a.x, a.y]);
     a.number
 }
 
@@ -118,8 +117,8 @@ pub extern "C" fn stipeharbor_stl_write(
 ) -> u32
     ensures { record { number = result; answer = answer.new; bytes = bytes.new } ≡ stl_write_out_of vertices.now triangles.now bytes.old answer.old }
 {
-    let w = written_answer_of(stl_write(vertices, triangles, bytes));
-    put_pair(answer, w.place, w.count);
+    let w = StlAnswer::from(stl_write(vertices, triangles, bytes));
+    put_over(answer, &[w.place, w.count]);
     w.number
 }
 
@@ -132,8 +131,8 @@ pub extern "C" fn stipeharbor_stl_read(
 ) -> u32
     ensures { record { number = result; answer = answer.new; corners = corners.new } ≡ stl_read_out_of bytes.now corners.old answer.old }
 {
-    let c = corners_answer_of(stl_read(bytes, corners));
-    put_pair(answer, c.place, c.count);
+    let c = StlAnswer::from(stl_read(bytes, corners));
+    put_over(answer, &[c.place, c.count]);
     c.number
 }
 
@@ -142,8 +141,8 @@ pub extern "C" fn stipeharbor_stl_read(
 pub extern "C" fn stipeharbor_widen(numbers: &[u16], wide: &mut [u32], answer: &mut [usize]) -> u32
     ensures { record { number = result; answer = answer.new; list = wide.new } ≡ widen_out_of numbers.now wide.old answer.old }
 {
-    let l = listed_answer_of(widen(numbers, wide));
-    put_pair(answer, l.place, l.count);
+    let l = ListedAnswer::from(widen(numbers, wide));
+    put_over(answer, &[l.place, l.count]);
     l.number
 }
 
@@ -156,8 +155,8 @@ pub extern "C" fn stipeharbor_narrow(
 ) -> u32
     ensures { record { number = result; answer = answer.new; list = narrowed.new } ≡ narrow_out_of numbers.now narrowed.old answer.old }
 {
-    let l = listed_answer_of(narrow(numbers, narrowed));
-    put_pair(answer, l.place, l.count);
+    let l = ListedAnswer::from(narrow(numbers, narrowed));
+    put_over(answer, &[l.place, l.count]);
     l.number
 }
 
@@ -166,8 +165,8 @@ pub extern "C" fn stipeharbor_narrow(
 pub extern "C" fn stipeharbor_check(count: usize, list: &[u32], answer: &mut [usize]) -> u32
     ensures { record { number = result; answer = answer.new } ≡ check_out_of (check_of count list.now) answer.old }
 {
-    let v = check(count, list);
-    put_number(answer, v.place);
+    let v = verdict_of(check(count, list));
+    put_over(answer, &[v.place]);
     v.number
 }
 
@@ -180,7 +179,7 @@ pub extern "C" fn stipeharbor_check_attached(
 ) -> u32
     ensures { record { number = result; answer = answer.new } ≡ check_out_of (check_attached_of count list.now) answer.old }
 {
-    let v = check_attached(count, list);
-    put_number(answer, v.place);
+    let v = verdict_of(check_attached(count, list));
+    put_over(answer, &[v.place]);
     v.number
 }

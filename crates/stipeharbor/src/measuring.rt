@@ -3,8 +3,8 @@ ghost use Rattle.std.specs.Prelude.{◌≡◌};
 ghost use Rattle.stipeharbor.specs.Calls.{options_of};
 ghost use Rattle.stipeharbor.specs.Measuring.{measure_out_of, part_out_of};
 
-use crate::put::put_numbers;
-use measure::answer::{measured_answer_of, part_answer_of};
+use lists::put_over;
+use measure::answer::{PartAnswer, measured_answer_of};
 use measure::measure;
 use measure::part::find_run;
 use options::Options;
@@ -27,16 +27,16 @@ pub extern "C" fn stipeharbor_measure(
     ensures { record { number = result; answer = answer.new } ≡ measure_out_of verbs.now coords.now (options_of width miter_limit line_join line_cap merge_range detail dash_offset) dashes.now answer.old }
 {
     let options = Options {
-        width: width,
-        miter_limit: miter_limit,
-        line_join: line_join,
+        width,
+        miter_limit,
+        line_join,
         cap: line_cap,
-        merge_range: merge_range,
-        detail: detail,
+        merge_range,
+        detail,
         offset: dash_offset,
     };
     let a = measured_answer_of(measure(verbs, coords, options, dashes));
-    put_numbers(answer, a.place, a.vertices, a.triangles);
+    put_over(answer, &[a.place, a.vertices, a.triangles]);
     a.number
 }
 
@@ -61,15 +61,15 @@ pub extern "C" fn stipeharbor_run_part(
     ensures { record { number = result; answer = answer.new } ≡ part_out_of verbs.now coords.now (options_of width miter_limit line_join line_cap merge_range detail dash_offset) dashes.now run vertices.now answer.old }
 {
     let options = Options {
-        width: width,
-        miter_limit: miter_limit,
-        line_join: line_join,
+        width,
+        miter_limit,
+        line_join,
         cap: line_cap,
-        merge_range: merge_range,
-        detail: detail,
+        merge_range,
+        detail,
         offset: dash_offset,
     };
-    let a = part_answer_of(find_run(verbs, coords, options, dashes, run, vertices.len()));
-    put_numbers(answer, a.place, a.start, a.length);
+    let a = PartAnswer::from(find_run(verbs, coords, options, dashes, run, vertices.len()));
+    put_over(answer, &[a.place, a.start, a.length]);
     a.number
 }

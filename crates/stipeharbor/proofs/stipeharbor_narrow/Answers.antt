@@ -3,4 +3,4 @@ use Rattle.stipeharbor.proofs.Passing.{listed}
 use Rattle.stipeharbor.proofs.stipeharbor_narrow.Goals as goal
 
 pub returns : goal.returns
-returns c = listed _ _ _ _ c.narrow.ensures _ c.listed_answer_of-l.ensures _ c.put_pair.ensures
+returns c = listed _ _ _ _ c.narrow.ensures _ c.from-l.ensures _ c.put_over.ensures
