@@ -1,6 +1,5 @@
 // A state as words, and back.
 ghost use Rattle.std.specs.Prelude.{◌≡◌, get_or};
-ghost use Rattle.lists.specs.Over.{over};
 ghost use Rattle.radio_words.specs.Words.{words_of, mode_in, pen_in, known_in, state_in, counts_in, radio_in, held_in};
 
 use crate::WORDS;
@@ -140,12 +139,4 @@ pub(crate) fn held(list: &[usize]) -> Radio
         return r;
     }
     Radio { closed: true, ..r }
-}
-
-// Words over the start of a list, as far as it goes.
-pub(crate) fn put(list: &mut [usize], words: &[usize])
-    ensures { list.new ≡ over words.now list.old }
-{
-    let n = words.len().min(list.len());
-    list[..n].copy_from_slice(&words[..n]);
 }

@@ -9,7 +9,8 @@ ghost use Rattle.refusals.specs.Numbers.{number_of, after_close};
 ghost use Rattle.radio.specs.Answer.{report_of};
 ghost use Rattle.radio_words.specs.Calls.{call_number, start_of, take_of, close_of};
 
-use crate::codec::{held, put, words_of};
+use crate::codec::{held, words_of};
+use lists::put_over;
 use radio::AfterClose;
 use radio::answer::RadioError;
 use reader::answer::PathSize;
@@ -36,7 +37,7 @@ pub fn start(state: &mut [usize]) -> Result<(), AfterClose>
     if state.len() < WORDS {
         return Err(AfterClose);
     }
-    put(state, &words_of(radio::start()));
+    put_over(state, &words_of(radio::start()));
     Ok(())
 }
 
@@ -51,7 +52,7 @@ pub fn take(
     ensures { record { number = call_number result; state = state.new; verbs = verbs.new; coords = coords.new } ≡ take_of state.old fragment.now verbs.old coords.old }
 {
     let on = radio::take(held(state), fragment, verbs, coords)?;
-    put(state, &words_of(on));
+    put_over(state, &words_of(on));
     Ok(())
 }
 
@@ -73,7 +74,7 @@ pub fn close(
 {
     let c = radio::close(held(state), verbs, coords);
     if !is_behind(c.report) {
-        put(state, &words_of(c.radio));
+        put_over(state, &words_of(c.radio));
     }
     c.report
 }

@@ -50,7 +50,7 @@ pub enum Refusal {
 }
 
 // A row of the table: its number, and a place.
-#[derive(Drop)]
+#[derive(Clone, Copy)]
 pub struct Verdict {
     pub number: u32,
     pub place: usize,

@@ -21,7 +21,7 @@ use joints::leg::{Leg, next_leg};
 use pieces::Index;
 
 // How far a run has come: the leg reached, and what is woven or counted.
-#[derive(Drop)]
+#[derive(Clone, Copy)]
 pub struct Walk {
     pub leg: Leg,
     pub weave: Weave,

@@ -13,4 +13,4 @@ returns-in_err-on c =
     rw p.1 (take_not c.args.state.now c.args.fragment.now c.args.verbs.now c.args.coords.now c.held.result t c.held.ensures c.in_err-on.ensures refl)
 
 pub returns : goal.returns
-returns c = take_on c.args.state.now c.args.fragment.now c.args.verbs.now c.args.coords.now _ _ c.held.ensures c.in_ok-on.ensures _ _ refl c.words_of.ensures c.put.ensures
+returns c = take_on c.args.state.now c.args.fragment.now c.args.verbs.now c.args.coords.now _ _ c.held.ensures c.in_ok-on.ensures _ _ refl c.words_of.ensures c.put_over.ensures
