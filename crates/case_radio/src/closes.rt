@@ -1,4 +1,4 @@
-// The numbers that the closing calls of a line have answered.
+// The numbers that the closing calls of a line have answered: an array and a length, since nothing here is on the heap.
 ghost use Rattle.std.specs.Prelude.{◌≤◌};
 
 // A line has no more words than this.

@@ -6,7 +6,8 @@ ghost use Rattle.endpoint.specs.Endpoint.{id_limit, endpoint_after, vertex_after
 
 use plane::vector::Point;
 
-// Endpoints and vertices are counted apart.
+// Endpoints and vertices are counted apart. Any u32 is one: `window` and `join` take endpoints of any number, so the type bounds none and who writes vertices asks
+// for the bound.
 #[derive(Clone, Copy)]
 pub struct EndpointId(pub u32);
 

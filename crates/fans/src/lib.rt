@@ -13,7 +13,7 @@ use pieces::{Index, Place};
 use plane::vector::Point;
 use vertices::base::side_points;
 
-// What of a stroke is round, and how deep its arcs go.
+// What of a stroke is round, and how deep its arcs go: 6 levels at most. The type says no bound, since `round_of` of specs/ builds it and would hold a proof.
 #[derive(Clone, Copy)]
 pub struct Round {
     pub joins: bool,
@@ -29,7 +29,7 @@ fn normal_at(e: EndpointData, x: f32, y: f32) -> Point
     (Point { x, y } - e.position) / e.half_width
 }
 
-// That of a side's first vertex, and of its last.
+// That of a side's first vertex, and of its last: a function to each definition, and what they share is `normal_at`.
 #[tactic(auto, unfolding(crate::specs::Fans::first_normal))]
 fn first_normal(e: EndpointData, p: SidePoints) -> Point
     ensures { result ≡ first_normal e p }

@@ -32,7 +32,7 @@ impl From<Refusal> for PartError {
     }
 }
 
-// What the call says, in the terms of document 01's table; a refusal's part is empty.
+// What the call says, in the terms of document 01's table, by number, as `part_answer_of` and C have it; a refusal's part is empty.
 #[derive(Clone, Copy)]
 pub struct PartAnswer {
     pub number: u32,

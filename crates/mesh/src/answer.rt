@@ -24,7 +24,7 @@ pub enum MeshError {
     TriangleRoom(MeshSize),
 }
 
-// What the call says, in the terms of document 01's table.
+// What the call says, in the terms of document 01's table, by number, as `mesh_answer_of` and C have it.
 #[derive(Clone, Copy)]
 pub struct MeshAnswer {
     pub number: u32,

@@ -10,7 +10,8 @@ use dashes::pattern::is_pattern;
 use endpoint::LineJoin;
 use refusals::{Meaning, Refusal, Verdict};
 
-// What a caller may choose. An option outside its range is refused with 1.
+// What a caller may choose. An option outside its range is refused with 1. Join and cap are numbers and no enums, since C hands over any: `stroke_of` refuses
+// what is none.
 #[derive(Clone, Copy)]
 pub struct Options {
     // The stripe's width, in the units of the coordinates: 1/256 to 16,384.
@@ -57,7 +58,7 @@ pub struct Stroke {
     pub offset: f32,
 }
 
-// What `stroke_of` says, in the terms of document 01's table. A refusal has zeros, Miter and Butt.
+// What `stroke_of` says, in the terms of document 01's table, by number, as `stroke_answer_of` has it. A refusal has zeros, Miter and Butt.
 #[derive(Clone, Copy)]
 pub struct StrokeAnswer {
     pub number: u32,

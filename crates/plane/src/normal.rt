@@ -6,7 +6,7 @@ ghost use Rattle.plane.specs.Normal.{epsilon, two, in_domain, normal_of, normal_
 use crate::vector::{Point, dot, normalize, square_length, turned};
 use refusals::Meaning;
 
-// The normal in the terms of document 01's table.
+// The normal in the terms of document 01's table, by number, as `normal_answer_of` and C have it.
 #[derive(Clone, Copy)]
 pub struct NormalAnswer {
     pub number: u32,

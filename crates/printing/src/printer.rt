@@ -7,7 +7,7 @@ use std::io::{Stdout, Write};
 
 const SIZE: usize = 65536;
 
-// The buffer, how many bytes wait there, whether more may be printed (not after a write that failed), and the leave to write
+// The buffer, an array since nothing here is on the heap, how many bytes wait there, whether more may be printed (not after a write that failed), and the leave to write
 // them, which takes no room.
 #[derive(Drop)]
 pub struct Printer {

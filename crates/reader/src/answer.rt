@@ -27,7 +27,7 @@ pub enum ReadError {
     NoRoom,
 }
 
-// The same in the terms of document 01's table.
+// The same in the terms of document 01's table, by number, as `read_answer_of` and C have it.
 #[derive(Clone, Copy)]
 pub struct ReadAnswer {
     pub number: u32,

@@ -49,7 +49,7 @@ pub enum Refusal {
     TooManyCuts,
 }
 
-// A row of the table: its number, and a place.
+// A row of the table: its number, and a place. A number and no `Meaning`, here and in every answer: the definitions of specs/ and C speak of numbers.
 #[derive(Clone, Copy)]
 pub struct Verdict {
     pub number: u32,

@@ -10,7 +10,7 @@ const ROOM: usize = 262144;
 // What one read takes at most.
 const CHUNK: usize = 65536;
 
-// The line that is being read, and how many bytes of it are held, or one more than its room where it is longer than that.
+// The line that is being read, an array since nothing here is on the heap, and how many bytes of it are held, or one more than its room where it is longer than that.
 #[derive(Drop)]
 struct Line {
     bytes: [u8; ROOM],

@@ -10,7 +10,7 @@ ghost use Rattle.root.specs.Answer.{Answers, answer_of};
 use pattern::{INFINITY, root_bits};
 use refusals::Meaning;
 
-// The root in the terms of document 01's table.
+// The root in the terms of document 01's table, by number, as `answer_of` and C have it.
 #[derive(Clone, Copy)]
 pub struct Answer {
     pub number: u32,

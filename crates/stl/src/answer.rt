@@ -24,7 +24,7 @@ pub enum ReadError {
     ListRoom,
 }
 
-// A number, its place, and how many bytes were written or floats read.
+// A number, as C has it, its place, and how many bytes were written or floats read.
 #[derive(Clone, Copy)]
 pub struct StlAnswer {
     pub number: u32,

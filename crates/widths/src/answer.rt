@@ -13,7 +13,7 @@ pub enum WidthError {
     WideNumber(usize),
 }
 
-// A number, its place, and how many numbers were put there.
+// A number, as C has it, its place, and how many numbers were put there.
 #[derive(Clone, Copy)]
 pub struct ListedAnswer {
     pub number: u32,

@@ -9,7 +9,7 @@ use refusals::Meaning;
 #[derive(Clone, Copy)]
 pub struct Empty;
 
-// What `get` and `replace_last` say, in the terms of document 01's table.
+// What `get` and `replace_last` say, in the terms of document 01's table, by number, as `get_answer_of` and `change_answer_of` have it.
 #[derive(Clone, Copy)]
 pub struct GetAnswer {
     pub number: u32,
