@@ -28,7 +28,7 @@ pub trait Pen: Drop {
 
     ghost laws: { PenLaws reached needs does };
 
-    // The last point that it kept. The leg is not handed out: to copy one costs a point 12 instructions.
+    // The last point that it kept.
     fn last(&self) -> Endpoint
         ensures { result ≡ (reached self.now).to };
 
