@@ -26,13 +26,7 @@ fn visit(ds: &[f32], limit: f32, t: Passed, p: Endpoint) -> Passed
 }
 
 // The points from the one at i on.
-fn count_points(
-    ds: &[f32],
-    limit: f32,
-    p: Points,
-    i: usize,
-    mut t: Passed,
-) -> Passed
+fn count_points(ds: &[f32], limit: f32, p: Points, i: usize, mut t: Passed) -> Passed
     requires { (0 < length ds.now) × Bounded t × (2 * i ≤ length p.coords.now) }
     ensures { PointsCounted limit ds.now p.entry.coords.now p.entry.first.0 i t result }
 {
@@ -43,14 +37,7 @@ fn count_points(
 }
 
 // The points of p, none of which is dropped on closing.
-fn count_kept(
-    ds: &[f32],
-    limit: f32,
-    b: Beat,
-    p: Points,
-    closed: bool,
-    n: usize,
-) -> usize
+fn count_kept(ds: &[f32], limit: f32, b: Beat, p: Points, closed: bool, n: usize) -> usize
     requires { Ready ds.now b n × (2 ≤ length p.coords.now) }
     ensures { result ≡ capped_of (n + kept_cuts closed ds.now b (kept_points limit false (points_of p.entry))) }
 {
@@ -71,14 +58,7 @@ fn count_kept(
 }
 
 // A run, and the cuts before it.
-pub fn count_run(
-    ds: &[f32],
-    limit: f32,
-    b: Beat,
-    p: Points,
-    closed: bool,
-    n: usize,
-) -> usize
+pub fn count_run(ds: &[f32], limit: f32, b: Beat, p: Points, closed: bool, n: usize) -> usize
     requires { Ready ds.now b n }
     ensures { result ≡ capped_of (n + kept_cuts closed ds.now b (kept_points limit closed (points_of p.entry))) }
 {

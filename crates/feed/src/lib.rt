@@ -11,8 +11,8 @@ ghost use Rattle.feed.specs.Feed.{NextFar, Turns, FeedFits, Feeds, first_feed};
 use dashes::pattern::Beat;
 use dashes::spot::{Mark, Spot, cut_of, falls, passed, spot_of, turned};
 use endpoint::Endpoint;
-use kept::points::{Kept, Points};
 use kept::near::is_near;
+use kept::points::{Kept, Points};
 
 // The edge that comes next, with the next cut; the index of the next point to look at; whether the way back to p0 is still to come.
 #[derive(Clone, Copy)]

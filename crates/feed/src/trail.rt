@@ -19,12 +19,7 @@ pub struct Trail {
 
 // The next kept point of a dash, to which the trail goes on; where there is none, the trail's feed then stands behind the dash.
 // Cut runs pass through rule 1 again: a point that is near the last kept one is dropped. A cut is the last point of a dash.
-pub fn next_point(
-    near: f32,
-    p: Points,
-    ds: &[f32],
-    t: &mut Trail,
-) -> Option<Endpoint>
+pub fn next_point(near: f32, p: Points, ds: &[f32], t: &mut Trail) -> Option<Endpoint>
     requires { FeedFits near p.coords.now p.first.0 ds.now t.old.feed }
     ensures { Follows near p.entry.coords.now p.entry.first.0 ds.now t.old result t.new }
 {
@@ -49,12 +44,7 @@ pub fn next_point(
 }
 
 // Through a gap to the next dash, which begins at a cut.
-pub fn next_dash(
-    near: f32,
-    p: Points,
-    ds: &[f32],
-    mut feed: Option<Feed>,
-) -> Option<Trail>
+pub fn next_dash(near: f32, p: Points, ds: &[f32], mut feed: Option<Feed>) -> Option<Trail>
     requires { FeedFits near p.coords.now p.first.0 ds.now feed }
     ensures { Begins near p.entry.coords.now p.entry.first.0 ds.now feed result }
 {
