@@ -28,7 +28,8 @@ abbrev pub put_all : Sheet → List Event → Sheet
 put_all h [] = h
 put_all h (e ∷ es) = put_all (event_put h e) es
 
-put_nothing : (h : Sheet) → Counted h → event_put h Nothing ≡ h
+-- what calls for nothing changes nothing
+pub put_nothing : (h : Sheet) → Counted h → event_put h Nothing ≡ h
 put_nothing h g =
     let p : capped (h.counts.verbs + 0) ≡ h.counts.verbs = omega (arith, g.verbs) in
     let q : capped (h.counts.coords + 0) ≡ h.counts.coords = omega (arith, g.coords) in
