@@ -7,7 +7,7 @@
  * needs memcpy and memset at most.
  *
  * Freestanding use needs <stddef.h> and <stdint.h> alone, which every compiler has, and these symbols of the archive for each machine (tools/native prints them): memcpy and memset on 64-bit machines; memcpy, memset and
- * __aeabi_uldivmod on 32-bit Arm Linux; __aeabi_memcpy, __aeabi_memcpy4, __aeabi_memcpy8, __aeabi_memmove, __aeabi_memclr, __aeabi_memclr4 and __aeabi_uldivmod on a bare Cortex-M, which libgcc with newlib, or compiler-rt, have. Floats are to be rounded to nearest
+ * __aeabi_uldivmod on 32-bit Arm Linux; __aeabi_memcpy, __aeabi_memcpy4, __aeabi_memcpy8, __aeabi_memmove, __aeabi_memclr, __aeabi_memclr4, __aeabi_memclr8 and __aeabi_uldivmod on a bare Cortex-M, which libgcc with newlib, or compiler-rt, have. Floats are to be rounded to nearest
  * and subnormals kept, as a processor does from its start. In C++ the calls are the same, by the extern "C" below.
  *
  * Each call returns 0 or the number of one refusal. A refusal leaves every list as it was, but for the last one, the answer's own (and those of the radio, where its calls say so). That one is written as
