@@ -2,16 +2,40 @@
 use Prim.Native.Nat.{ℕ, suc, ◌+◌, ◌-◌, ◌≤◌, ◌<◌}
 use mathlib.Core.Path.{◌≡◌, refl, sym, ap, ◌∙◌}
 use mathlib.Core.Bool.{true, false}
-use mathlib.Core.List.{List}
+use mathlib.Core.List.{List, []}
 use native.Mathlib.Omega.{arith}
-use lib.Ieee.{Float, le}
-use lib.ListN.{length}
+use native.Mathlib.Numerals.{add-one}
+use lib.Ieee.{Float, le, nan}
+use lib.ListN.{length, drop, get_or, drop_of_length-le}
+use lib.Seq.{drop-cons}
 use Rattle.plane.specs.F32.{◌⊖◌}
-use Rattle.dashes.specs.Pattern.{length_at, worn_from, next_cut}
+use Rattle.dashes.specs.Pattern.{length_in, lengths_in, length_at, worn_from, next_cut}
 use Rattle.dashes.specs.Marks.{falls_on, passed_of, cuts_on, behind}
 use Rattle.dashes.specs.Counts.{EdgeCounted}
 use Rattle.dashes.specs.declared.pattern.Wear.{Wear}
 use Rattle.dashes.specs.declared.spot.Spot.{Spot}
+
+-- ---- the list of lengths: the first i are in their range
+pub record Tested (ds : List Float) (i : ℕ) : Type 0 where
+  pub reached : i ≤ length ds
+  pub rest : lengths_in ds ≡ lengths_in (drop i ds)
+
+pub tested_none : (ds : List Float) → Tested ds 0
+tested_none ds = record { reached = omega arith; rest = refl }
+
+module _ (ds : List Float) (i : ℕ) (w : Tested ds i) where
+  pub tested_all : length ds ≤ i → true ≡ lengths_in ds
+  unfolding lengths_in
+  tested_all h = let e : drop i ds ≡ [] = drop_of_length-le ds h in sym (rw e at w.rest)
+
+  module _ (h : i < length ds) where
+    pub tested_stop : length_in (get_or ds i nan) ≡ false → false ≡ lengths_in ds
+    unfolding lengths_in
+    tested_stop f = sym (rw (drop-cons ds i nan h, f) at w.rest)
+
+    pub tested_one : length_in (get_or ds i nan) ≡ true → Tested ds (i + 1)
+    unfolding lengths_in
+    tested_one t = record { reached = omega arith; rest = rw add-one (rw (drop-cons ds i nan h, t) at w.rest) }
 
 -- ---- the offset
 module _ (ds : List Float) (o : Float) (n : ℕ) where

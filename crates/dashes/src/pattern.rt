@@ -1,6 +1,6 @@
 // The lengths of a dash pattern, and its cuts as advancements.
 ghost use Rattle.std.specs.Prelude.{◌≡◌, ◌<◌, length};
-ghost use Rattle.dashes.specs.Pattern.{length_in, offset_in, pattern_in, length_at, Dash, worn_of, first_cut, next_cut, index_limit};
+ghost use Rattle.dashes.specs.Pattern.{length_in, offset_in, lengths_in, pattern_in, length_at, Dash, worn_of, first_cut, next_cut, index_limit};
 
 // What wearing the offset down leaves: the number of the first length that is not used up, and what is taken of it.
 #[derive(Clone, Copy)]
@@ -31,11 +31,23 @@ fn is_offset(o: f32) -> bool
     0.0 <= o && o <= 32768.0
 }
 
+// A loop: std's `all` asks a list for a reference or none, which is laid out as each machine's pointers are.
+fn are_lengths(ds: &[f32]) -> bool
+    ensures { result ≡ lengths_in ds.now }
+{
+    for d in ds {
+        if !is_length(*d) {
+            return false;
+        }
+    }
+    true
+}
+
 // Refusal 1 where it is false. An empty list means no dashes, and its offset has the same range.
 pub fn is_pattern(ds: &[f32], offset: f32) -> bool
     ensures { result ≡ pattern_in ds.now offset }
 {
-    ds.len() <= 16 && is_offset(offset) && ds.iter().all(|d| is_length(*d))
+    ds.len() <= 16 && is_offset(offset) && are_lengths(ds)
 }
 
 // Length number i, the list taken over and over: twice over is the same again.

@@ -20,6 +20,12 @@ Clear test n = (k : ℕ) → k < n → test k ≡ false
 pub clear_none : (test : ℕ → Bool) → Clear test 0
 clear_none test k h = absurd (omega arith)
 
+pub clear_more : (test : ℕ → Bool) (i : ℕ) → Clear test i → test i ≡ false → Clear test (i + 1)
+clear_more test i before e k h = go (dec_le i k) where
+  go : Dec (i ≤ k) → test k ≡ false
+  go (yes l) = let n : k ≡ i = omega arith in rw n e
+  go (no l) = before k (omega arith)
+
 -- ---- where a search ends
 pub first_found : (test : ℕ → Bool) (n i : ℕ) → i < n → Clear test i → test i ≡ true → i ≡ first test n
 unfolding first

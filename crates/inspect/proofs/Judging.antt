@@ -5,8 +5,8 @@ use mathlib.Core.Bool.{Bool, true, false, not, ◌&&◌, cond}
 use mathlib.Core.List.{List}
 use native.Mathlib.Omega.{arith}
 use lib.Dec.{leb, ltb, eqb}
-use lib.ListN.{length}
-use borrow.Author.Tests.{eq-eqb, ne_eqb, lt-ltb, le-ltb, eqb-true, ltb-false}
+use lib.ListN.{length, get_or}
+use borrow.Author.Tests.{eq-eqb, ne_eqb, lt-ltb, le-ltb, le-leb, lt-leb, eqb-true, ltb-false}
 use Rattle.std.specs.Prelude.{position}
 use Rattle.std.specs.List.{position_or_len}
 use Rattle.std.proofs.lemmas.List.Recursion.{is_position_or_len}
@@ -134,7 +134,15 @@ large_place count l = rw same
     same = sym (is_position_or_len (λ l. first (too_large count l) (length l)) (leb count) refl
         (λ x xs. let e : suc (first (too_large count xs) (length xs)) ≡ 1 + first (too_large count xs) (length xs) = omega arith in ap (λ (n : ℕ). cond (leb count x) 0 n) e) l)
 
--- ---- what the code's test says of two triangles
+-- ---- what the code's tests say of a number, and of two triangles
+pub is_large_lem : (count : ℕ) (l : List ℕ) (i r : ℕ) → r ≡ get_or l i 0 → count ≤ r → too_large count l i ≡ true
+unfolding too_large
+is_large_lem count l i r e h = rw (← e) (le-leb count r h)
+
+pub not_large : (count : ℕ) (l : List ℕ) (i r : ℕ) → r ≡ get_or l i 0 → r < count → too_large count l i ≡ false
+unfolding too_large
+not_large count l i r e h = rw (← e) (lt-leb count r h)
+
 pub is_touching : (l : List ℕ) (t s : ℕ) (u e : Tri) (r : ℕ) → e ≡ triangle_at l s → u ≡ triangle_at l t → r ≡ shared e u → r ≡ 2 → touches l t s ≡ true
 unfolding touches
 is_touching l t s u e r pe pu pr two = rw (← pe, ← pu, ← pr, two)

@@ -9,7 +9,13 @@ use crate::three::{triangle_at, two_alike};
 pub(crate) fn first_large(count: usize, list: &[u32]) -> Option<usize>
     ensures { result ≡ position (leb count) list.now }
 {
-    list.iter().position(|x| *x as usize >= count)
+    // A loop: std's search over a list answers a reference or none, whose layout hangs on the size of a pointer.
+    for i in 0..list.len() {
+        if list[i] as usize >= count {
+            return Some(i);
+        }
+    }
+    None
 }
 
 // The first triangle that names a vertex twice.

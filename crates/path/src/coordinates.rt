@@ -11,18 +11,29 @@ fn is_in_limits(x: f32) -> bool
     -32768.0 <= x && x <= 32768.0
 }
 
-// Whether all are. The fold does not end early, so that the compiler takes several coordinates at a time.
+// Whether all are. The loop does not end early, so that the compiler takes several coordinates at a time.
+// A loop: std's `fold` asks a list for a reference or none, which is laid out as each machine's pointers are.
 fn are_in_limits(coords: &[f32]) -> bool
     ensures { result ≡ fold (λ t x. t && coordinate_in x) true coords.now }
 {
-    coords.iter().fold(true, |all, x| all & is_in_limits(*x))
+    let mut all = true;
+    for x in coords {
+        all = all & is_in_limits(*x);
+    }
+    all
 }
 
 // The index of the first that is not.
+// A loop: std's `position` asks a list for a reference or none too.
 fn search(coords: &[f32]) -> Option<usize>
     ensures { result ≡ position (λ x. not (coordinate_in x)) coords.now }
 {
-    coords.iter().position(|x| !is_in_limits(*x))
+    for i in 0..coords.len() {
+        if !is_in_limits(coords[i]) {
+            return Some(i);
+        }
+    }
+    None
 }
 
 // The index of the first coordinate that is not finite or too large.

@@ -52,7 +52,7 @@ pub(crate) fn words_of(r: Radio) -> [usize; WORDS]
 fn word(words: &[usize], i: usize) -> usize
     ensures { result ≡ get_or words.now i 0 }
 {
-    words.get(i).copied().unwrap_or(0)
+    if i < words.len() { words[i] } else { 0 }
 }
 
 fn mode_in(words: &[usize]) -> Mode

@@ -21,7 +21,11 @@ fn put_word(bytes: &mut [u8], n: u32)
     requires { 4 ≤ length bytes.old }
     ensures { bytes.new ≡ over (le32 n) bytes.old }
 {
-    bytes[..4].copy_from_slice(&n.to_le_bytes());
+    let word = n.to_le_bytes();
+    bytes[0] = word[0];
+    bytes[1] = word[1];
+    bytes[2] = word[2];
+    bytes[3] = word[3];
 }
 
 // x, y, and a z of zero bytes.

@@ -5,13 +5,14 @@ use mathlib.Core.Bool.{Bool, true, false, cond}
 use mathlib.Core.List.{List, [], ◌∷◌, ◌++◌, map}
 use native.Mathlib.Numerals.{add-one}
 use native.Mathlib.Omega.{arith}
-use borrow.Author.Tests.{le-ltb, ltb-true, ltb-false}
+use borrow.Author.Tests.{lt-ltb, le-ltb, ltb-true, ltb-false}
 use lib.Dec.{ltb}
 use lib.ListN.{length, take, get_or, set}
 use lib.Seq.{length-take-le, take-suc}
 use Rattle.std.specs.Prelude.{Option, Some, None, MatchOption, position}
 use Rattle.std.specs.List.{position_or_len}
 use Rattle.std.proofs.lemmas.List.Recursion.{is_position_or_len}
+use Rattle.std.proofs.lemmas.List.Sums.{position_or_len_is}
 use Rattle.lists.specs.Over.{over}
 use Rattle.lists.proofs.Laws.{over_next}
 use Rattle.widths.specs.Back.{AreNarrow}
@@ -29,6 +30,14 @@ over_more {A} xs ys i x l h e =
 pub map_same : (xs : List ℕ) → map (λ x. x) xs ≡ xs
 map_same [] = refl
 map_same (x ∷ xs) = ap (λ (l : List ℕ). x ∷ l) (map_same xs)
+
+-- ---- where std's search ends: the test is false of the first i
+module _ {A : Type 0} (test : A → Bool) (xs : List A) (i : ℕ) (d : A) (before : (k : ℕ) → k < i → test (get_or xs k d) ≡ false) where
+  pub found_at : i < length xs → test (get_or xs i d) ≡ true → Some i ≡ position test xs
+  found_at h e = rw (position_or_len_is test xs i d (omega arith) before (λ l. e), lt-ltb i (length xs) h)
+
+  pub found_none : i ≤ length xs → length xs ≤ i → None ≡ position test xs
+  found_none l h = rw (position_or_len_is test xs i d l before (λ m. absurd (omega arith)), le-ltb i (length xs) h)
 
 -- ---- the first that is too large, as std finds it
 pub first_where : (xs : List ℕ) (r : Option ℕ) → r ≡ position (ltb narrow_most) xs → MatchOption r (length xs ≤ first_wide xs) (λ i. (i ≡ first_wide xs) × (i < length xs))

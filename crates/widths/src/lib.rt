@@ -42,7 +42,13 @@ fn first_wide(numbers: &[u32]) -> Option<usize>
     ensures first { result ≡ position (ltb narrow_most) numbers.now }
     ensures fits { IsNone result → All (λ n. n < 65536) numbers.now }
 {
-    numbers.iter().position(|n| *n > NARROW_MOST)
+    // A loop: std's search over a list answers a reference or none, whose layout hangs on the size of a pointer.
+    for i in 0..numbers.len() {
+        if numbers[i] > NARROW_MOST {
+            return Some(i);
+        }
+    }
+    None
 }
 
 // Puts numbers over the start of `narrow`, where none is above 65,535. A refusal changes nothing.

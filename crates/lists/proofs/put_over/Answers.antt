@@ -1,13 +1,23 @@
 -- `lists::put_over` meets its contract. Assumes nothing.
-use Rattle.std.proofs.Common.{◌≡◌, length, drop, take, min}
-use Rattle.std.proofs.Math.Nat.{min_comm}
-use Rattle.std.proofs.lemmas.List.{take_min, drop_min}
-use Rattle.lists.proofs.Short.{over_parts}
+use Rattle.std.proofs.Common.{◌≡◌, length}
+use mathlib.Core.Path.{sym, ap, ◌∙◌}
+use lib.ListN.{take}
+use native.Mathlib.Omega.{arith}
+use Rattle.lists.proofs.Laws.{over_none, length_over}
+use Rattle.lists.proofs.Short.{over_more, over_full}
+use Rattle.lists.proofs.put_over.Goals.{then-i-list, else-i-list}
 use Rattle.lists.proofs.put_over.Goals as goal
 
-pub returns : goal.returns
-returns g c =
+pub loop-i-init : goal.loop-i-init
+loop-i-init g c = sym (over_none _)
+
+pub loop-i-preserved : goal.loop-i-preserved
+loop-i-preserved g c =
     let vs = c.args.values.now in
     let xs = c.args.list.now in
-    let n : c.min-n.result ≡ min (length vs) (length xs) = c.min-n.ensures in
-    rw (c.copy_from_slice.ensures.after, n, drop_min, min_comm (length vs) (length xs)) (rw (take_min) (over_parts vs xs))
+    let i = c.loop-i.i in
+    let n : length c.loop-i.list ≡ length xs = ap length c.loop-i.invariant ∙ length_over (take i vs) xs in
+    elim c.if-i-list.branch [
+      | then-i-list w ↦ rw (w.list-is, c.loop-i.invariant) (over_more vs xs i w.index-values-i.result c.loop-i-test.true (omega (arith, n, w.if-i-list.true)) (sym w.index-values-i.is))
+      | else-i-list w ↦ rw (w.list-is, c.loop-i.invariant) (over_full vs xs i (omega (arith, n, w.if-i-list.false)))
+    ]
