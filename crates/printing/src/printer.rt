@@ -1,8 +1,8 @@
 // What is printed waits in a buffer, and is written out when little room is left there. So an answer
 // may be longer than the buffer, and many short ones are one write.
-ghost use Rattle.std.specs.Prelude.{◌≡◌, ◌≤◌};
+ghost use Rattle.std.specs.Prelude.{◌≡◌, ◌≤◌, length};
 
-use lines::at::{decimal_at, float_at, hex_byte_at};
+use lines::at::{decimal_at, float_at, hex_byte_at, text_at};
 use std::io::{Stdout, Write};
 
 const SIZE: usize = 65536;
@@ -52,13 +52,19 @@ impl Printer {
         }
     }
 
-    // Prints a text.
+    // Prints a text, in pieces that the room is made for.
     pub fn text(&mut self, bytes: &[u8]) {
-        for b in bytes {
-            self.make_room();
-            self.out[self.waiting] = *b;
-            self.waiting += 1;
+        for piece in bytes.chunks(32) {
+            self.piece(piece);
         }
+    }
+
+    // Prints a short text.
+    fn piece(&mut self, bytes: &[u8])
+        requires { length bytes.now ≤ 32 }
+    {
+        self.make_room();
+        self.waiting = text_at(&mut self.out, self.waiting, bytes);
     }
 
     // Prints a number in decimal.
