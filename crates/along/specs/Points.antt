@@ -21,6 +21,9 @@ drops limit sure leg p = not sure && near limit leg.to p
 unfoldable pub visit_of : Bool → Stroke → Leg → Endpoint → Leg
 visit_of sure o leg p = cond (drops o.near sure leg p) leg (next_leg_of o.half_width leg p)
 
+unfoldable pub visited : Bool → Stroke → Leg → Endpoint → List EndpointData
+visited sure o leg p = cond (drops o.near sure leg p) [] (advanced o leg p)
+
 -- the points ps: which are kept behind l, the leg reached, and the joints on the way
 abbrev pub keeps : Float → Bool → Endpoint → List Endpoint → List Endpoint
 keeps limit sure l ps = cond sure ps (kept_behind limit l ps)
