@@ -1,11 +1,12 @@
--- One digit of a root, from r = 2 ^ (e + 1) to p = 2 ^ e, and the first. The digit is 1 where what is left holds (4 * q + 1) * r: then
+-- One digit of a root, from r = 2 ^ (e + 1) to p = 2 ^ e, and the first and the last. The digit is 1 where what is left holds (4 * q + 1) * r: then
 -- the square of (2 * q + 1) * p is at most n. Of a word only `rest` is not linear, and that is an identity. Assumes nothing.
 use mathlib.Core.Path.{◌≡◌, ◌∙◌, subst}
 use Prim.Native.Nat.{ℕ, ◌+◌, ◌-◌, ◌*◌, ◌/◌, ◌%◌, ◌^◌, ◌≤◌, ◌<◌}
 use native.Mathlib.Nat.{mul-le-mul_left}
 use native.Mathlib.Omega.{arith}
 use lib.Pow.{pow_pos, pow-add}
-use Rattle.root.specs.Steps.{Operands, Digits}
+use Rattle.root.specs.Steps.{Floor, Near, Operands, Digits}
+use Rattle.root.proofs.Squares.{rounded_up, rounded_down}
 
 -- ---- what is left, over whole numbers
 rest_one : (n q d p : ℕ) → 4 * n ≡ (d + (4 * q + 1) * (2 * p)) * (2 * p) + 4 * (q * (2 * p) * (q * (2 * p)))
@@ -129,3 +130,23 @@ start n o = let a = o.low in let b = o.high in let c = o.zeros in record {
 -- a place above 0 comes after the one below it
 pub after : {n w k : ℕ} → 0 < k → Digits n w k → Digits n w (k - 1 + 1)
 after {n} {w} {k} h D = let e : k - 1 + 1 ≡ k = omega arith in rw e D
+
+-- ---- what the last leaves
+module _ (n w : ℕ) (D : Digits n w 0) (o : Operands n) where
+  abbrev rest_of : ℕ
+  rest_of = w / 17179869184
+
+  abbrev whole_of : ℕ
+  whole_of = (w - rest_of * 17179869184 % 18446744073709551616) / 4
+
+  floor : Floor n D.q
+  floor = let a = D.rest in let b = D.small in record { low = omega arith; high = omega arith }
+
+  parts : (rest_of ≡ n - D.q * D.q) × (whole_of ≡ D.q)
+  parts = let a = D.word in let b = D.room in let c = D.small in let d = D.rest in (omega arith, omega arith)
+
+  pub up : whole_of < rest_of → Near n (whole_of + 1)
+  up h = let p = parts in rw p.1 (rounded_up n D.q o floor (omega arith))
+
+  pub down : rest_of ≤ whole_of → Near n whole_of
+  down h = let p = parts in rw p.1 (rounded_down n D.q o floor (omega arith))
