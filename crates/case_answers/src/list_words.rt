@@ -44,7 +44,9 @@ pub fn read_number_list<'a>(
 }
 
 // A byte list, by one word.
-pub fn read_byte_list<'a>(words: &mut Words, room: &'a mut [u8]) -> Result<&'a [u8], BadLine> {
+pub fn read_byte_list<'a>(words: &mut Words, room: &'a mut [u8]) -> Result<&'a [u8], BadLine>
+    ensures { IfOk result (λ list. length list.now ≤ length room.old) }
+{
     let count = words.bytes(room)?;
     Ok(&room[..count])
 }

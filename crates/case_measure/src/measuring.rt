@@ -6,14 +6,14 @@ use measure::answer::measured_answer_of;
 use measure::measure;
 use printing::Printer;
 
-// The whole line is read before the call is made.
+// The whole line is read before the call is made. Its rooms stand before the first `?`: one behind it would be cleared when the call begins, and again where it stands.
 pub fn answer(words: &mut Words, out: &mut Printer) -> Result<(), BadLine> {
-    let options = read_options(words)?;
     let mut lengths = [0.0f32; DASH_ROOM];
-    let lengths = read_float_list(words, &mut lengths)?;
     let mut verbs = [0u8; VERB_ROOM];
-    let verbs = read_byte_list(words, &mut verbs)?;
     let mut coords = [0.0f32; COORD_ROOM];
+    let options = read_options(words)?;
+    let lengths = read_float_list(words, &mut lengths)?;
+    let verbs = read_byte_list(words, &mut verbs)?;
     let coords = read_float_list(words, &mut coords)?;
     words.end()?;
     let a = measured_answer_of(measure(verbs, coords, options, lengths));
